@@ -1,0 +1,4 @@
+pub mod Cases
+pub mod Every
+pub mod Lists
+pub mod Shift

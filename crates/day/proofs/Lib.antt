@@ -1,0 +1,4 @@
+pub mod Forward
+pub mod Until
+pub mod Ranges
+pub mod RoundTrip

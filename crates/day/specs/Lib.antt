@@ -1,0 +1,2 @@
+pub mod TimeOfDay
+pub mod Fields

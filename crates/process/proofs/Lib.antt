@@ -1,0 +1,5 @@
+pub mod Moves
+pub mod Places
+pub mod FirstInFirstOut
+pub mod Telling
+pub mod Delivering

@@ -1,0 +1,5 @@
+pub mod States
+pub mod Messages
+pub mod FirstInFirstOut
+pub mod Marks
+pub mod Process
