@@ -4,7 +4,7 @@ use mathlib.Core.List.{List, [], _∷_, _++_}
 use Prim.Native.Nat.{ℕ, zero, suc, _<_}
 use native.Mathlib.Nat.{le-of-suc-le-suc, not-suc-le-zero}
 use native.Mathlib.Omega.{arith}
-use lib.ListN.{length, getD, set, drop, length-set}
+use lib.ListN.{length, getD, set, drop}
 
 module _ {A : Type 0} where
   -- the list after so many turns: those places hold what stood one further
@@ -13,13 +13,6 @@ module _ {A : Type 0} where
   shifted (suc i) [] = []
   shifted (suc i) (x ∷ []) = x ∷ []
   shifted (suc i) (x ∷ y ∷ l) = y ∷ shifted i (y ∷ l)
-
-  pub length-shifted : (i : ℕ) (l : List A) → length (shifted i l) ≡ length l
-  unfolding shifted
-  length-shifted zero l = refl
-  length-shifted (suc i) [] = refl
-  length-shifted (suc i) (x ∷ []) = refl
-  length-shifted (suc i) (x ∷ y ∷ l) = ap suc (length-shifted i (y ∷ l))
 
   -- one turn more
   pub shifted-suc : (i : ℕ) (l : List A) (d : A) → suc i < length l → set (shifted i l) i (getD (shifted i l) (suc i) d) ≡ shifted (suc i) l

@@ -1,6 +1,6 @@
 -- Document 01, "Timer orders": "MSEC > 999, SEC > 59, MIN > 59, HOUR > 23 (the manual's 1000 is a slip)" is refused.
 use lib.Dec.{ltb}
-use Prim.Native.Nat.{ℕ, _+_, _*_, _/_, _%_}
+use Prim.Native.Nat.{_+_, _*_, _/_, _%_}
 use Rattle.common.specs.Choice.{pick}
 use Rattle.day.specs.declared.TimeOfDay.{TimeOfDay}
 use Rattle.day.specs.TimeOfDay.{at}

@@ -1,20 +1,20 @@
 -- A buffer is first in, first out, and its freed places are used again. Assumes nothing.
-use mathlib.Core.Path.{_≡_, _∙_, refl, ap, ap₂, sym, subst, subst⁻¹}
+use mathlib.Core.Path.{_≡_, _∙_, ap, ap₂, sym, subst, subst⁻¹}
 use mathlib.Core.Bool.{true, false}
 use mathlib.Core.List.{List, [], _∷_, _++_, append-assoc, append-nil}
-use Prim.Native.Nat.{ℕ, zero, suc, _+_, _-_, _<_, _≤_, min}
+use Prim.Native.Nat.{ℕ, suc, _-_, _<_, _≤_, min}
 use native.Mathlib.Omega.{arith}
 use native.Mathlib.Numerals.{add-one}
 use lib.Dec.{eqb, ltb}
-use lib.ListN.{length, getD, take, drop, set, length-set, length-append, length-drop, length-take}
-use lib.Seq.{take-suc-set, take-append-le, drop-cons}
+use lib.ListN.{length, getD, take, drop, length-set, length-append, length-drop, length-take}
+use lib.Seq.{take-suc-set, take-append-le}
 use borrow.Author.Tests.{eqb-true, eqb-false, ltb-true, ltb-false}
 use Rattle.common.specs.Choice.{pick}
 use Rattle.common.proofs.Cases.{by-test}
 use Rattle.process.specs.declared.buffers.Message.{Message}
 use Rattle.process.specs.declared.buffers.Buffer.{Buffer}
 use Rattle.process.specs.declared.buffers.Put.{Put}
-use Rattle.process.specs.Messages.{zeros, messagesOf, roomOf, behindOf, putOf, oldestOf, shiftedOf, restOf}
+use Rattle.process.specs.Messages.{zeros, messagesOf, behindOf, putOf, oldestOf, restOf}
 use Rattle.process.specs.FirstInFirstOut.{Step, putting, taking, stepOf, inOf, outOf, afterOf, insOf, outsOf, Whole}
 use Rattle.process.proofs.Places.{oldest-first, rest-none, rest-some, put-room, put-full}
 

@@ -17,44 +17,28 @@ use Rattle.process.specs.declared.states.Next.{Next}
 use Rattle.process.specs.declared.states.Next.the-variants.{Nowhere, To}
 use Rattle.process.specs.States.{rowOf, columnOf, nextOf}
 
-abbrev states : List State
+abbrev pub states : List State
 states = Inactive ∷ Ready ∷ WaitingForMessage ∷ WaitingForEvent ∷ WaitingForSemaphore ∷ []
 
-abbrev causes : List Cause
+abbrev pub causes : List Cause
 causes = Start ∷ WaitForMessage ∷ Message ∷ WaitForEvent ∷ Event ∷ WaitForSemaphore ∷ Handover ∷ []
 
 -- each state has a row of its own, and each cause a column
-state-at : (s : State) → getD states (rowOf s) Inactive ≡ s
-state-at Inactive = refl
-state-at Ready = refl
-state-at WaitingForMessage = refl
-state-at WaitingForEvent = refl
-state-at WaitingForSemaphore = refl
+pub row-known : (s : State) → (rowOf s < 5) × (getD states (rowOf s) Inactive ≡ s)
+row-known Inactive = (lit< tt, refl)
+row-known Ready = (lit< tt, refl)
+row-known WaitingForMessage = (lit< tt, refl)
+row-known WaitingForEvent = (lit< tt, refl)
+row-known WaitingForSemaphore = (lit< tt, refl)
 
-pub row-below : (s : State) → rowOf s < 5
-row-below Inactive = lit< tt
-row-below Ready = lit< tt
-row-below WaitingForMessage = lit< tt
-row-below WaitingForEvent = lit< tt
-row-below WaitingForSemaphore = lit< tt
-
-cause-at : (c : Cause) → getD causes (columnOf c) Start ≡ c
-cause-at Start = refl
-cause-at WaitForMessage = refl
-cause-at Message = refl
-cause-at WaitForEvent = refl
-cause-at Event = refl
-cause-at WaitForSemaphore = refl
-cause-at Handover = refl
-
-pub column-below : (c : Cause) → columnOf c < 7
-column-below Start = lit< tt
-column-below WaitForMessage = lit< tt
-column-below Message = lit< tt
-column-below WaitForEvent = lit< tt
-column-below Event = lit< tt
-column-below WaitForSemaphore = lit< tt
-column-below Handover = lit< tt
+pub column-known : (c : Cause) → (columnOf c < 7) × (getD causes (columnOf c) Start ≡ c)
+column-known Start = (lit< tt, refl)
+column-known WaitForMessage = (lit< tt, refl)
+column-known Message = (lit< tt, refl)
+column-known WaitForEvent = (lit< tt, refl)
+column-known Event = (lit< tt, refl)
+column-known WaitForSemaphore = (lit< tt, refl)
+column-known Handover = (lit< tt, refl)
 
 -- two entries are the same
 abbrev same : Next → Next → Bool
@@ -68,7 +52,7 @@ same-is Nowhere Nowhere h = refl
 same-is Nowhere (To t) h = absurd h
 same-is (To s) Nowhere h = absurd h
 same-is (To s) (To t) h =
-    ap To (sym (state-at s) ∙ ap (λ (i : ℕ). getD states i Inactive) (eqb→eq (rowOf s) (rowOf t) h) ∙ state-at t)
+    ap To (sym (row-known s .1) ∙ ap (λ (i : ℕ). getD states i Inactive) (eqb→eq (rowOf s) (rowOf t) h) ∙ row-known t .1)
 
 -- the table as the code has it: a row for each state, an entry for each cause
 abbrev pub rows : List (List Next)
@@ -94,9 +78,9 @@ all-right = tt
 
 pub entry-next : (s : State) (c : Cause) → entryOf s c ≡ nextOf s c
 entry-next s c =
-    let row = every-at (λ x. every (right x) causes) states Inactive all-right (rowOf s) (row-below s) in
-    let entry = every-at (right s) causes Start (rw (state-at s) at row) (columnOf c) (column-below c) in
-    same-is (entryOf s c) (nextOf s c) (rw (cause-at c) at entry)
+    let row = every-at (λ x. every (right x) causes) states Inactive all-right (rowOf s) (row-known s .0) in
+    let entry = every-at (right s) causes Start (rw (row-known s .1) at row) (columnOf c) (column-known c .0) in
+    same-is (entryOf s c) (nextOf s c) (rw (column-known c .1) at entry)
 
 -- how many of the causes lead anywhere from a state, and from all of them
 abbrev leading : State → List Cause → ℕ

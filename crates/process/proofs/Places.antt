@@ -1,7 +1,7 @@
 -- What the operations on a buffer do to its places, by cases. Assumes nothing.
-use mathlib.Core.Path.{_≡_, _∙_, refl, ap}
+use mathlib.Core.Path.{_≡_, _∙_, ap}
 use mathlib.Core.Bool.{true, false}
-use Prim.Native.Nat.{ℕ, zero, suc, _-_, _<_, _≤_, min}
+use Prim.Native.Nat.{ℕ, _-_, _<_, _≤_, min}
 use native.Mathlib.Omega.{arith}
 use lib.ListN.{length, getD, take}
 use lib.Seq.{getD-take}
@@ -9,7 +9,7 @@ use borrow.Author.Tests.{eq-eqb, ne-eqb, lt-ltb, le-ltb}
 use Rattle.common.proofs.Lists.{getD-within}
 use Rattle.process.specs.declared.buffers.Message.{Message}
 use Rattle.process.specs.declared.buffers.Buffer.{Buffer}
-use Rattle.process.specs.Messages.{zeros, messagesOf, roomOf, behindOf, putOf, oldestOf, shiftedOf, restOf}
+use Rattle.process.specs.Messages.{zeros, messagesOf, behindOf, putOf, oldestOf, shiftedOf, restOf}
 
 module _ (b : Buffer) where
   pub oldest-none : b .count ≡ 0 → oldestOf b ≡ zeros

@@ -1,5 +1,5 @@
 -- Document 01, "Messages": "With each message handed over, also at a wake, one mark is told and cleared: overflow (5) before time (14); the other stays for the next."
-use mathlib.Core.Bool.{Bool, true, false}
+use mathlib.Core.Bool.{Bool, false}
 use Prim.Native.Nat.{ℕ}
 use Rattle.common.specs.Choice.{pick}
 use Rattle.process.specs.declared.marking.Marks.{Marks}

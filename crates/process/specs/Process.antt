@@ -1,5 +1,5 @@
 -- Document 01, "States" and "Messages": one process's record, and how a message reaches it.
-use mathlib.Core.Bool.{Bool, true, false}
+use mathlib.Core.Bool.{true, false}
 use Prim.Native.Nat.{ℕ}
 use Rattle.common.specs.Choice.{pick}
 use Rattle.process.specs.States.{nextOf}
@@ -13,7 +13,6 @@ use Rattle.process.specs.declared.states.Next.{Next}
 use Rattle.process.specs.declared.states.Next.the-variants.{Nowhere, To}
 use Rattle.process.specs.declared.buffers.Message.{Message}
 use Rattle.process.specs.declared.buffers.Buffer.{Buffer}
-use Rattle.process.specs.declared.buffers.Put.{Put}
 use Rattle.process.specs.declared.marking.Marks.{Marks}
 use Rattle.process.specs.declared.Process.{Process}
 use Rattle.process.specs.declared.Condition.{Condition}
@@ -39,6 +38,10 @@ movedOf p cause = movedTo (nextOf (p .state) cause) p
 -- "SETPRIORITY changes the caller's priority, .., and nothing more in its record"
 abbrev pub withPriorityOf : Process → ℕ → Process
 withPriorityOf p priority = processOf (p .state) priority (p .marks) (p .buffer)
+
+-- "CLEARMESSAGE: .. empties buffers, leaves marks"
+abbrev pub clearedOf : Process → Process
+clearedOf p = processOf (p .state) (p .priority) (p .marks) emptyOf
 
 -- "Number 3 sets the receiver's overflow mark"
 abbrev pub overflowMarkedOf : Process → Process

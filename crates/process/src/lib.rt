@@ -1,6 +1,6 @@
 // One process: its state, priority, marks and message buffer, and how a message reaches it.
 ghost use mathlib.Core.Path.{_≡_};
-ghost use Rattle.process.specs.Process.{freshOf, movedOf, withPriorityOf, overflowMarkedOf, timeMarkedOf, handedOf, storedOf, deliverOf};
+ghost use Rattle.process.specs.Process.{freshOf, movedOf, withPriorityOf, clearedOf, overflowMarkedOf, timeMarkedOf, handedOf, storedOf, deliverOf};
 
 pub mod buffers;
 pub mod marking;
@@ -82,6 +82,16 @@ impl Process {
         let mut changed = self;
         changed.priority = priority;
         changed
+    }
+
+    // CLEARMESSAGE's change: the messages go, the marks stay.
+    pub fn cleared(self) -> Process
+        ensures { λ r. ⌜ r ≡ clearedOf self ⌝ }
+    {
+        let buffer = Buffer::empty();
+        let mut cleared = self;
+        cleared.buffer = buffer;
+        cleared
     }
 
     // Marked because its full buffer lost a message that was sent.

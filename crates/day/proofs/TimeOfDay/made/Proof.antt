@@ -18,11 +18,8 @@ returns-3 c = sym (bad-minute _ (omega arith) (omega arith) (omega arith))
 returns-4 : tie.Need-returns-4
 returns-4 c = sym (bad-hour _ (omega arith) (omega arith) (omega arith) (omega arith))
 
-named-requires : tie.Need-named-requires
-named-requires c κs = search needs
-
 returns-5 : tie.Need-returns-5
 returns-5 c = ap Time (c .named .ensures) ∙ sym (made-good _ (omega arith))
 
 pub made-spec : {M : Type 1} → statement M
-made-spec = tie.close (tie.spec returns returns-2 returns-3 returns-4 named-requires returns-5)
+made-spec = tie.close (tie.spec returns returns-2 returns-3 returns-4 (λ c κs. search needs) returns-5)

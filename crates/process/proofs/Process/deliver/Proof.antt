@@ -4,27 +4,6 @@ use borrow.Author.Needs.{needs}
 use Rattle.process.proofs.Process.deliver.Statement.{statement}
 use Rattle.process.proofs.Process.deliver.Tie as tie
 
-next-requires : tie.Need-next-requires
-next-requires c κs = search needs
-
-enum-known-next : tie.Need-enum-known-next
-enum-known-next c = search needs
-
-handed-requires : tie.Need-handed-requires
-handed-requires c κs = search needs
-
-enum-told : tie.Need-enum-told
-enum-told c = search needs
-
-enum-told-2 : tie.Need-enum-told-2
-enum-told-2 c = search needs
-
-stored-requires : tie.Need-stored-requires
-stored-requires c κs = search needs
-
-enum-told-3 : tie.Need-enum-told-3
-enum-told-3 c = search needs
-
 returns : tie.Need-returns
 unfolding deliverOf
 returns c = c .handed .ensures ∙ rw (← c .before .before .before .before .next .ensures, c .before .before .next2 .given .1)
@@ -41,13 +20,13 @@ pub deliver-spec : {M : Type 1} → statement M
 deliver-spec =
     tie.close
     (tie.spec
-    next-requires
-    enum-known-next
-    handed-requires
-    enum-told
-    enum-told-2
-    stored-requires
-    enum-told-3
+    (λ c κs. search needs)
+    (λ c. search needs)
+    (λ c κs. search needs)
+    (λ c. search needs)
+    (λ c. search needs)
+    (λ c κs. search needs)
+    (λ c. search needs)
     returns
     returns-2
     returns-3)

@@ -3,15 +3,6 @@ use borrow.Author.Needs.{needs}
 use Rattle.process.proofs.Process.moved.Statement.{statement}
 use Rattle.process.proofs.Process.moved.Tie as tie
 
-next-requires : tie.Need-next-requires
-next-requires c κs = search needs
-
-enum-known-next : tie.Need-enum-known-next
-enum-known-next c = search needs
-
-enum-told : tie.Need-enum-told
-enum-told c = search needs
-
 returns : tie.Need-returns
 unfolding movedOf
 returns c = rw (← c .before .before .before .next .ensures, c .before .next2 .given .1)
@@ -21,4 +12,4 @@ unfolding movedOf
 returns-2 c = rw (← c .before .before .next .ensures, c .enum-told .given .1)
 
 pub moved-spec : {M : Type 1} → statement M
-moved-spec = tie.close (tie.spec next-requires enum-known-next enum-told returns returns-2)
+moved-spec = tie.close (tie.spec (λ c κs. search needs) (λ c. search needs) (λ c. search needs) returns returns-2)

@@ -3,9 +3,6 @@ use borrow.Author.Needs.{needs}
 use Rattle.process.proofs.Process.stored.Statement.{statement}
 use Rattle.process.proofs.Process.stored.Tie as tie
 
-put-requires : tie.Need-put-requires
-put-requires c κs = search needs
-
 returns : tie.Need-returns
 unfolding storedOf
 returns c = rw (← c .before .before .put .ensures, c .before .if1 .taken)
@@ -15,4 +12,4 @@ unfolding storedOf
 returns-2 c = rw (← c .before .put .ensures, c .if1 .left)
 
 pub stored-spec : {M : Type 1} → statement M
-stored-spec = tie.close (tie.spec put-requires returns returns-2)
+stored-spec = tie.close (tie.spec (λ c κs. search needs) returns returns-2)

@@ -8,7 +8,7 @@ use Rattle.process.specs.Messages.{zeros}
 use mathlib.Core.Path.{_≡_, _∙_, refl, ap}
 use Prim.Native.Nat.{ℕ, _≤_, _-_}
 use native.Mathlib.Omega.{arith}
-use Rattle.common.proofs.Shift.{shifted, length-shifted, shifted-suc, shifted-all}
+use Rattle.common.proofs.Shift.{shifted, shifted-suc, shifted-all}
 use Rattle.process.proofs.buffers.shifted.Statement.{statement}
 use Rattle.process.proofs.buffers.shifted.Tie as tie
 
@@ -25,36 +25,12 @@ loop-holds : tie.Need-loop-holds Inv-loop μ-loop
 unfolding shifted
 loop-holds c = (omega arith, refl)
 
-add-next : tie.Need-add-next Inv-loop μ-loop
-add-next c = omega arith
-
-mul-next : tie.Need-mul-next Inv-loop μ-loop
-mul-next c = omega arith
-
-array-copy-out-next : tie.Need-array-copy-out-next Inv-loop μ-loop
-array-copy-out-next c = omega arith
-
-mul-moved : tie.Need-mul-moved Inv-loop μ-loop
-mul-moved c = omega arith
-
-array-set-from-moved : tie.Need-array-set-from-moved Inv-loop μ-loop
-array-set-from-moved c = omega arith
-
-add-place : tie.Need-add-place Inv-loop μ-loop
-add-place c = omega arith
-
-loop-less : tie.Need-loop-less Inv-loop μ-loop
-loop-less c = omega arith
-
 loop-again : tie.Need-loop-again Inv-loop μ-loop
 loop-again c =
     let start = c .before .before .before in
     let place = c .before .before .loop .place in
     let l : length (start .args .kept) ≡ 16 = long start in
     (omega arith, rw (c .before .before .loop .inv .1, add-one) (shifted-suc place (start .args .kept) _ (omega arith)))
-
-array-set-from-moved-2 : tie.Need-array-set-from-moved-2 Inv-loop μ-loop
-array-set-from-moved-2 c = search needs
 
 returns : tie.Need-returns Inv-loop μ-loop
 returns c =
@@ -70,13 +46,13 @@ shifted-spec =
     Inv-loop
     μ-loop
     loop-holds
-    add-next
-    mul-next
-    array-copy-out-next
-    mul-moved
-    array-set-from-moved
-    add-place
-    loop-less
+    (λ c. omega arith)
+    (λ c. omega arith)
+    (λ c. omega arith)
+    (λ c. omega arith)
+    (λ c. omega arith)
+    (λ c. omega arith)
+    (λ c. omega arith)
     loop-again
-    array-set-from-moved-2
+    (λ c. search needs)
     returns)

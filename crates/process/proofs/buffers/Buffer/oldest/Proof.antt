@@ -13,13 +13,10 @@ long c = search (needs, of-map)
 returns : tie.Need-returns
 returns c = sym (oldest-none _ (c .if1 .taken))
 
-array-copy-out-result : tie.Need-array-copy-out-result
-array-copy-out-result c = search needs
-
 returns-2 : tie.Need-returns-2
 returns-2 c =
     let l : length (c .before .before .before .before .args .self .kept) ≡ 16 = long (c .before .before .before .before) in
     sym (oldest-first _ _ (c .before .before .if1 .left) (omega arith))
 
 pub oldest-spec : {M : Type 1} → statement M
-oldest-spec = tie.close (tie.spec array-copy-out-result returns returns-2)
+oldest-spec = tie.close (tie.spec (λ c. search needs) returns returns-2)

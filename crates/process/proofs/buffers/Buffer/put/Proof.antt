@@ -5,18 +5,6 @@ use borrow.Author.Needs.{needs}
 use Rattle.process.proofs.buffers.Buffer.put.Statement.{statement}
 use Rattle.process.proofs.buffers.Buffer.put.Tie as tie
 
-least-requires : tie.Need-least-requires
-least-requires c κs = search needs
-
-mul-kept : tie.Need-mul-kept
-mul-kept c = search needs
-
-array-set-from-kept : tie.Need-array-set-from-kept
-array-set-from-kept c = search needs
-
-add-t9 : tie.Need-add-t9
-add-t9 c = search needs
-
 returns : tie.Need-returns
 returns c = sym (put-room _ _ _ (omega arith))
 
@@ -25,4 +13,4 @@ returns-2 c = sym (put-full _ _ _ (omega arith))
 
 pub put-spec : {M : Type 1} → statement M
 put-spec =
-    tie.close (tie.spec least-requires mul-kept array-set-from-kept add-t9 returns returns-2)
+    tie.close (tie.spec (λ c κs. search needs) (λ c. search needs) (λ c. search needs) (λ c. search needs) returns returns-2)

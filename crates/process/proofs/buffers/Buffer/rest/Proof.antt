@@ -7,14 +7,8 @@ use Rattle.process.proofs.buffers.Buffer.rest.Tie as tie
 returns : tie.Need-returns
 returns c = sym (rest-none _ (c .if1 .taken))
 
-shifted-requires : tie.Need-shifted-requires
-shifted-requires c κs = search needs
-
-sub-t6 : tie.Need-sub-t6
-sub-t6 c = search needs
-
 returns-2 : tie.Need-returns-2
 returns-2 c = rw (c .shifted .ensures) (sym (rest-some _ (c .before .before .if1 .left)))
 
 pub rest-spec : {M : Type 1} → statement M
-rest-spec = tie.close (tie.spec returns shifted-requires sub-t6 returns-2)
+rest-spec = tie.close (tie.spec returns (λ c κs. search needs) (λ c. search needs) returns-2)

@@ -1,21 +1,15 @@
 use Prim.Native.Nat.{_<_}
 use native.Mathlib.Omega.{arith}
-use Rattle.process.proofs.Moves.{row-below, column-below, entry-next}
+use Rattle.process.proofs.Moves.{row-known, column-known, entry-next}
 use borrow.Author.Needs.{needs}
 use Rattle.process.proofs.states.State.next.Statement.{statement}
 use Rattle.process.proofs.states.State.next.Tie as tie
 
 row-small : (c : tie.After-column) → c .before .row .result < 5
-row-small c = rw (c .before .row .ensures) (row-below (c .before .before .args .self))
+row-small c = rw (c .before .row .ensures) (row-known (c .before .before .args .self) .0)
 
 column-small : (c : tie.After-column) → c .column .result < 7
-column-small c = rw (c .column .ensures) (column-below (c .before .before .args .cause))
-
-row-requires : tie.Need-row-requires
-row-requires c κs = search needs
-
-column-requires : tie.Need-column-requires
-column-requires c κs = search needs
+column-small c = rw (c .column .ensures) (column-known (c .before .before .args .cause) .0)
 
 mul-result : tie.Need-mul-result
 mul-result c = omega (arith, row-small c)
@@ -36,8 +30,8 @@ pub next-spec : {M : Type 1} → statement M
 next-spec =
     tie.close
     (tie.spec
-    row-requires
-    column-requires
+    (λ c κs. search needs)
+    (λ c κs. search needs)
     mul-result
     mul-result-2
     index-1-result
