@@ -1,2 +1,5 @@
 pub mod Choice
 pub mod Every
+pub mod Fold
+pub mod Keep
+pub mod Packing

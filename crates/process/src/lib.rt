@@ -21,6 +21,13 @@ pub struct Process {
     pub buffer: Buffer,
 }
 
+// Whom a call names: all, one level, or nobody there is.
+pub enum Target {
+    All,
+    Level(u8),
+    Unknown,
+}
+
 // What a sender asks of the receiver: that it waits for a message, or nothing.
 pub enum Condition {
     Always,

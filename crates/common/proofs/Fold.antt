@@ -1,0 +1,25 @@
+-- Loops that take in the elements of a list one after the other. Assumes nothing.
+use mathlib.Core.Path.{_≡_, _∙_, ap, sym}
+use mathlib.Core.List.{List}
+use Prim.Native.Nat.{ℕ, _+_, _<_, _≤_}
+use native.Mathlib.Omega.{arith}
+use native.Mathlib.Numerals.{add-one}
+use lib.ListN.{length, getD, take, drop, length-take, drop-of-length-le}
+use lib.Seq.{drop-cons, length-take-le, getD-take}
+use Rattle.common.specs.Fold.{foldOf}
+
+module _ {S A : Type 0} (step : S → A → S) where
+  -- one turn of such a loop: the element at i is taken in, and those behind it are left
+  pub fold-turn : (s : S) (l : List A) (i : ℕ) (d : A) → i < length l → foldOf step s (drop i l) ≡ foldOf step (step s (getD l i d)) (drop (i + 1) l)
+  fold-turn s l i d h = rw add-one (ap (foldOf step s) (drop-cons l i d h))
+
+  -- the same for a loop over the first elements of an array
+  pub walk-turn : (s : S) (array : List A) (count i : ℕ) (d : A) → i < count → count ≤ length array
+      → foldOf step s (drop i (take count array)) ≡ foldOf step (step s (getD array i d)) (drop (i + 1) (take count array))
+  walk-turn s array count i d h within =
+      fold-turn s (take count array) i d (rw (length-take-le count array within) h)
+      ∙ ap (λ x. foldOf step (step s x) (drop (i + 1) (take count array))) (getD-take count array i d h)
+
+  -- after the last of them nothing is left to take in: what was to come is there
+  pub walk-end : (s r : S) (array : List A) (count i : ℕ) → count ≤ i → foldOf step s (drop i (take count array)) ≡ r → s ≡ r
+  walk-end s r array count i h e = sym (ap (foldOf step s) (drop-of-length-le (take count array) {i = i} (simp length-take (omega arith)))) ∙ e

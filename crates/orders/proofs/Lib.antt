@@ -1,0 +1,7 @@
+pub mod Standing
+pub mod Walks
+pub mod Tables
+pub mod Nearest
+pub mod Life
+pub mod Timer
+pub mod Schedule

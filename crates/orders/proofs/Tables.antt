@@ -1,0 +1,66 @@
+-- What the operations on the order table do to the list of orders that stand: they are the steps of the timer law. Assumes nothing.
+use mathlib.Core.Path.{_≡_, _∙_, ap, sym}
+use mathlib.Core.Bool.{Bool, true, false}
+use mathlib.Core.List.{List, [], _∷_, _++_}
+use Prim.Native.Nat.{ℕ, suc, _+_, _<_, _≤_, min}
+use native.Mathlib.Omega.{arith}
+use lib.ListN.{length, take, set, length-append, length-take}
+use lib.Seq.{take-suc-set}
+use borrow.Author.Tests.{lt-ltb, le-ltb}
+use Rattle.common.specs.Choice.{pick}
+use Rattle.common.specs.Keep.{keepOf}
+use Rattle.common.proofs.Keep.{length-keep}
+use Rattle.day.specs.declared.TimeOfDay.{TimeOfDay}
+use Rattle.process.specs.declared.Target.{Target}
+use Rattle.orders.specs.declared.Order.{Order}
+use Rattle.orders.specs.declared.Onward.{Onward}
+use Rattle.orders.specs.declared.Orders.{Orders}
+use Rattle.orders.specs.Orders.{standingOf, pushOf, acceptOf}
+use Rattle.orders.specs.Advance.{leftsOf, advancing, onwardOf, advanceOf}
+use Rattle.orders.specs.Cancel.{withoutOf}
+use Rattle.orders.specs.Timer.{staysAfter}
+use Rattle.orders.proofs.Standing.{push-room, standing-orders}
+
+-- no more stand than there are places
+pub standing-most : (o : Orders) → length (standingOf o) ≤ 64
+unfolding standingOf
+standing-most o = simp length-take (omega arith)
+
+length-left : (b : Bool) (x : Order) → length (pick b (x ∷ []) []) ≤ 1
+length-left true x = omega arith
+length-left false x = omega arith
+
+length-lefts : (onward : Order → Onward) (l : List Order) → length (leftsOf onward l) ≤ length l
+unfolding leftsOf
+length-lefts onward [] = omega arith
+length-lefts onward (x ∷ l) = rw length-append (omega (arith, length-left (onward x .stays) (onward x .order), length-lefts onward l))
+
+-- a tick's step
+pub standing-advance : (now : TimeOfDay) (o : Orders) → standingOf (advanceOf now o) ≡ advancing now (standingOf o)
+unfolding advanceOf
+standing-advance now o = standing-orders _ (omega (arith, length-lefts (onwardOf now) (standingOf o), standing-most o))
+
+-- a cancel's step
+pub standing-without : (sender : Target) (receiver : ℕ) (o : Orders) → standingOf (withoutOf sender receiver o) ≡ keepOf (staysAfter sender receiver) (standingOf o)
+unfolding withoutOf
+standing-without sender receiver o = standing-orders _ (omega (arith, length-keep (staysAfter sender receiver) (standingOf o), standing-most o))
+
+module _ (o : Orders) (places : ℕ) (x : Order) where
+  pub accept-room : o .count < min places 64 → acceptOf o places x ≡ record { accepted = true; orders = pushOf o x }
+  unfolding acceptOf
+  accept-room room = rw (lt-ltb (o .count) (min places 64) room)
+
+  pub accept-full : min places 64 ≤ o .count → acceptOf o places x ≡ record { accepted = false; orders = o }
+  unfolding acceptOf
+  accept-full full = rw (le-ltb (o .count) (min places 64) full)
+
+  -- an acceptance's step
+  pub standing-push : length (o .places) ≡ 64 → o .count < 64 → standingOf (pushOf o x) ≡ standingOf o ++ (x ∷ [])
+  unfolding standingOf
+  standing-push long room =
+      let more : min (o .count + 1) 64 ≡ suc (o .count) = omega arith in
+      let all : min (o .count) 64 ≡ o .count = omega arith in
+      ap (λ (p : Orders). take (min (p .count) 64) (p .places)) (push-room o x room)
+      ∙ ap (λ (n : ℕ). take n (set (o .places) (o .count) x)) more
+      ∙ take-suc-set (o .places) (o .count) x (omega arith)
+      ∙ ap (λ (n : ℕ). take n (o .places) ++ (x ∷ [])) (sym all)

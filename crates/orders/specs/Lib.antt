@@ -1,0 +1,5 @@
+pub mod Moments
+pub mod Orders
+pub mod Advance
+pub mod Cancel
+pub mod Timer
