@@ -1,0 +1,11 @@
+pub mod Tests
+pub mod Lists
+pub mod Numbers
+pub mod Parts
+pub mod Once
+pub mod Waiting
+pub mod ReleasingAll
+pub mod Effects
+pub mod Orderly
+pub mod Waking
+pub mod Turns

@@ -1,0 +1,119 @@
+-- Lists in which each level stands once, and that twelve levels are at most twelve. Assumes nothing.
+use mathlib.Core.Path.{_≡_, _∙_, refl, sym, ap}
+use mathlib.Core.Bool.{true, false, not}
+use mathlib.Core.List.{List, [], _∷_, _++_}
+use Prim.Native.Nat.{ℕ, zero, suc, _<_, _≤_}
+use native.Mathlib.Omega.{arith}
+use lib.Dec.{eqb}
+use lib.ListN.{length, getD}
+use borrow.Author.Tests.{eqb-true, eqb-false, eq-eqb, ne-eqb}
+use Rattle.common.specs.Choice.{pick}
+use Rattle.common.specs.Keep.{keepOf}
+use Rattle.common.proofs.Cases.{by-test}
+use Rattle.semaphores.specs.Turns.{standsIn, Once}
+use Rattle.semaphores.proofs.Tests.{never-both}
+use Rattle.semaphores.proofs.Parts.{Part, nothing, taken, left, part-keep}
+
+-- ---- whether a level stands in a list
+
+-- the head of a list stands in it
+pub stands-here : (level : ℕ) (l : List ℕ) → standsIn level (level ∷ l) ≡ true
+unfolding standsIn
+stands-here level l = rw (eq-eqb level level refl)
+
+-- what holds of a list's head, if that is the level, and of the others where it stands holds of the level
+pub stands-cases : {P : Type 0} (level x : ℕ) (l : List ℕ) → standsIn level (x ∷ l) ≡ true → (x ≡ level → P) → (standsIn level l ≡ true → P) → P
+unfolding standsIn
+stands-cases level x l stands here later =
+    by-test (eqb x level) (λ e. here (eqb-true _ _ e)) (λ e. later (rw e at stands))
+
+-- what stands at a place stands in the list
+pub stands-at : (level : ℕ) (l : List ℕ) (i : ℕ) → i < length l → getD l i 0 ≡ level → standsIn level l ≡ true
+unfolding standsIn
+stands-at level [] i h e = absurd (omega arith)
+stands-at level (x ∷ l) zero h e = rw (eq-eqb x level e)
+stands-at level (x ∷ l) (suc i) h e = by-test (eqb x level) (λ t. rw t) (λ t. rw t (stands-at level l i (omega arith) e))
+
+-- in a list with one more behind the others
+pub stands-behind : (level x : ℕ) (l : List ℕ) → standsIn level (l ++ (x ∷ [])) ≡ pick (standsIn level l) true (eqb x level)
+unfolding standsIn
+stands-behind level x [] = by-test (eqb x level) (λ t. rw t) (λ t. rw t)
+stands-behind level x (y ∷ l) = by-test (eqb y level) (λ t. rw t) (λ t. rw t (stands-behind level x l))
+
+-- in a part, and so in the whole
+pub stands-part : (level : ℕ) {l m : List ℕ} → Part l m → standsIn level l ≡ true → standsIn level m ≡ true
+unfolding standsIn
+stands-part level nothing stands = stands
+stands-part level (taken {x = x} part) stands = by-test (eqb x level) (λ t. rw t) (λ t. rw t (stands-part level part (rw t at stands)))
+stands-part level (left {x = x} part) stands = by-test (eqb x level) (λ t. rw t) (λ t. rw t (stands-part level part stands))
+
+-- not in the whole, and so in no part
+pub stands-no-part : (level : ℕ) {l m : List ℕ} → Part l m → standsIn level m ≡ false → standsIn level l ≡ false
+stands-no-part level {l} part none = by-test (standsIn level l) (λ t. absurd (never-both (stands-part level part t) none)) (λ f. f)
+
+-- ---- each level once
+
+-- in a part of a list too
+pub once-part : {l m : List ℕ} → Part l m → Once m → Once l
+unfolding Once
+once-part nothing once = once
+once-part (taken {x = x} part) once = (stands-no-part x part (once .0), once-part part (once .1))
+once-part (left part) once = once-part part (once .1)
+
+-- with one more, which did not stand in it, behind the others
+pub once-behind : (x : ℕ) (l : List ℕ) → Once l → standsIn x l ≡ false → Once (l ++ (x ∷ []))
+unfolding Once standsIn
+once-behind x [] once none = (refl, tt)
+once-behind x (y ∷ l) once none =
+    by-test (eqb y x)
+    (λ t. absurd (never-both refl (rw t at none)))
+    (λ t. let other : x ≡ y → ⊥ = (λ e. eqb-false y x t (sym e)) in
+    (stands-behind y x l ∙ rw (once .0, ne-eqb x y other), once-behind x l (once .1) (rw t at none)))
+
+-- ---- no more than there are levels
+
+-- a list without one level
+others : ℕ → List ℕ → List ℕ
+others level l = keepOf (λ x. not (eqb x level)) l
+
+-- it is a part of the list
+others-part : (level : ℕ) (l : List ℕ) → Part (others level l) l
+unfolding others
+others-part level l = part-keep (λ x. not (eqb x level)) l
+
+-- that level does not stand in it
+others-none : (level : ℕ) (l : List ℕ) → standsIn level (others level l) ≡ false
+unfolding others keepOf standsIn
+others-none level [] = refl
+others-none level (x ∷ l) = by-test (eqb x level) (λ t. rw t (others-none level l)) (λ t. rw (t, t) (others-none level l))
+
+-- where the level does not stand the list is as long as before
+others-all : (level : ℕ) (l : List ℕ) → standsIn level l ≡ false → length (others level l) ≡ length l
+unfolding others keepOf standsIn
+others-all level [] none = refl
+others-all level (x ∷ l) none =
+    by-test (eqb x level)
+    (λ t. absurd (never-both refl (rw t at none)))
+    (λ t. rw t (ap suc (others-all level l (rw t at none))))
+
+-- where each level stands once it is shorter by at most one
+others-length : (level : ℕ) (l : List ℕ) → Once l → length l ≤ suc (length (others level l))
+unfolding others keepOf Once
+others-length level [] once = omega arith
+others-length level (x ∷ l) once =
+    by-test (eqb x level)
+    (λ t. let here : x ≡ level = eqb-true _ _ t in
+    let same : length (others level l) ≡ length l = others-all level l (rw (← here) (once .0)) in
+    rw t (omega arith))
+    (λ t. let less : length l ≤ suc (length (others level l)) = others-length level l (once .1) in rw t (omega arith))
+
+-- levels below a limit, each once, are no more than the limit
+pub once-below : (limit : ℕ) (l : List ℕ) → Once l → ((level : ℕ) → standsIn level l ≡ true → level < limit) → length l ≤ limit
+once-below zero [] once below = omega arith
+once-below zero (x ∷ l) once below = absurd (omega (arith, below x (stands-here x l)))
+once-below (suc limit) l once below =
+    let part = others-part limit l in
+    let fewer : length (others limit l) ≤ limit = once-below limit (others limit l) (once-part part once)
+    (λ level stands. let less : level < suc limit = below level (stands-part level part stands) in
+    let not-it : level ≡ limit → ⊥ = (λ e. never-both (rw e at stands) (others-none limit l)) in omega arith) in
+    omega (arith, others-length limit l once)
