@@ -1,6 +1,6 @@
 -- Loops that take in the elements of a list one after the other. Assumes nothing.
-use mathlib.Core.Path.{_≡_, _∙_, ap, sym}
-use mathlib.Core.List.{List}
+use mathlib.Core.Path.{_≡_, _∙_, refl, ap, sym}
+use mathlib.Core.List.{List, [], _∷_, _++_}
 use Prim.Native.Nat.{ℕ, _+_, _<_, _≤_}
 use native.Mathlib.Omega.{arith}
 use native.Mathlib.Numerals.{add-one}
@@ -23,3 +23,8 @@ module _ {S A : Type 0} (step : S → A → S) where
   -- after the last of them nothing is left to take in: what was to come is there
   pub walk-end : (s r : S) (array : List A) (count i : ℕ) → count ≤ i → foldOf step s (drop i (take count array)) ≡ r → s ≡ r
   walk-end s r array count i h e = sym (ap (foldOf step s) (drop-of-length-le (take count array) {i = i} (simp length-take (omega arith)))) ∙ e
+
+-- a fold over two lists, one after the other
+pub fold-append : {S A : Type 0} (step : S → A → S) (s : S) (l m : List A) → foldOf step s (l ++ m) ≡ foldOf step (foldOf step s l) m
+fold-append step s [] m = refl
+fold-append step s (x ∷ l) m = fold-append step (step s x) l m

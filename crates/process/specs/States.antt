@@ -19,6 +19,10 @@ rowOf WaitingForMessage = 2
 rowOf WaitingForEvent = 3
 rowOf WaitingForSemaphore = 4
 
+-- two states are the same
+abbrev pub isOf : State → State → Bool
+isOf state other = eqb (rowOf state) (rowOf other)
+
 abbrev pub columnOf : Cause → ℕ
 columnOf Start = 0
 columnOf WaitForMessage = 1

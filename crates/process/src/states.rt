@@ -1,6 +1,6 @@
 // The five states, the seven causes, and where each cause leads from each state.
 ghost use mathlib.Core.Path.{_≡_};
-ghost use Rattle.process.specs.States.{nextOf, rowOf, columnOf};
+ghost use Rattle.process.specs.States.{nextOf, rowOf, columnOf, isOf};
 
 // Document 01's INACT, READY, WM, WE and WR.
 pub enum State {
@@ -57,6 +57,13 @@ impl State {
             State::WaitingForEvent => 3,
             State::WaitingForSemaphore => 4,
         }
+    }
+
+    // The same state.
+    pub fn is(self, other: State) -> bool
+        ensures { λ r. ⌜ r ≡ isOf self other ⌝ }
+    {
+        self.row() == other.row()
     }
 
     // The state that the cause leads to, if it leads anywhere.

@@ -1,5 +1,3 @@
-pub mod Tests
-pub mod Lists
 pub mod Numbers
 pub mod Parts
 pub mod Once

@@ -5,10 +5,9 @@ use Prim.Native.Nat.{ℕ, _<_}
 use native.Mathlib.Omega.{arith}
 use lib.Dec.{leb, eqb}
 use borrow.Author.Tests.{leb-true}
-use Rattle.common.proofs.Cases.{by-test}
+use Rattle.common.proofs.Cases.{by-test, both}
 use Rattle.semaphores.specs.declared.Semaphores.{Semaphores}
 use Rattle.semaphores.specs.Semaphores.{usableOf, holderOf, holdsOf}
-use Rattle.semaphores.proofs.Tests.{both}
 
 -- each usable number has its place among the holders
 pub usable-below : (number : ℕ) → usableOf number ≡ true → number < 96

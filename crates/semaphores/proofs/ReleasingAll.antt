@@ -6,7 +6,7 @@ use Rattle.semaphores.specs.declared.Semaphores.{Semaphores}
 use Rattle.semaphores.specs.declared.ReleaseAll.{ReleaseAll}
 use Rattle.semaphores.specs.Queues.{withOf, noneOf}
 use Rattle.semaphores.specs.Semaphores.{wokenOf, releaseOf, alsoOf, releasedFrom, wokenFrom, releaseAllOf}
-use Rattle.semaphores.proofs.Lists.{fold-append}
+use Rattle.common.proofs.Fold.{fold-append}
 use Rattle.semaphores.proofs.Waiting.{with-list}
 
 -- where a release of all ends that has so many numbers left, from a first one on

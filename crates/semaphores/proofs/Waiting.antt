@@ -12,11 +12,10 @@ use Rattle.common.specs.Fold.{foldOf}
 use Rattle.common.specs.Keep.{keepOf}
 use Rattle.common.proofs.Cases.{by-test}
 use Rattle.common.proofs.Keep.{keep-append}
-use Rattle.common.proofs.Packing.{take-packed}
+use Rattle.common.proofs.Packing.{take-packed, packed-behind}
 use Rattle.semaphores.specs.declared.queues.Waiter.{Waiter}
 use Rattle.semaphores.specs.declared.queues.Queue.{Queue}
 use Rattle.semaphores.specs.Queues.{nobody, listOf, queued, emptyOf, pushOf, waitsFor, levelsFor, withoutFirst, leavingAs, passedOf, leavingOf, levelled, withOf, noneOf}
-use Rattle.semaphores.proofs.Lists.{packed-behind}
 use Rattle.semaphores.proofs.Parts.{Part, part-map, part-keep}
 
 -- a waiter goes behind the list that lies in a queue

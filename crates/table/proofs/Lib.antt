@@ -1,0 +1,4 @@
+pub mod Configured
+pub mod Empty
+pub mod Fresh
+pub mod Waking

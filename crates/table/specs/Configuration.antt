@@ -1,0 +1,64 @@
+-- Document 01, "Configuration".
+use mathlib.Core.Bool.{Bool, not, _&&_, _||_}
+use Prim.Native.Nat.{ℕ, _+_}
+use lib.Dec.{eqb, leb, ltb}
+use lib.ListN.{getD}
+use Rattle.common.specs.Choice.{pick}
+use Rattle.day.specs.TimeOfDay.{day}
+use Rattle.table.specs.declared.configs.Config.{Config}
+use Rattle.table.specs.declared.configs.Privileged.{Privileged}
+
+-- "Lowest level L, 0 or more, and number of processes P, 1 to 11, with L + P - 1 at most 11."
+abbrev pub levelsGood : Config → Bool
+levelsGood c = leb 1 (c .processes) && leb (c .processes) 11 && leb (c .lowest + c .processes) 12
+
+-- a configured level: L..L+P-1
+unfoldable pub configuredOf : Config → ℕ → Bool
+configuredOf c level = leb (c .lowest) level && ltb level (c .lowest + c .processes)
+
+-- "Scheduler level 0 to 11, outside that run."
+abbrev pub schedulerGood : Config → Bool
+schedulerGood c = leb (c .scheduler) 11 && not (configuredOf c (c .scheduler))
+
+-- "Message places per process NP 1 to 16. Order places A 1 to 64. Card type 8 .. or 16"
+abbrev pub placesGood : Config → Bool
+placesGood c =
+    leb 1 (c .places)
+    && leb (c .places) 16
+    && leb 1 (c .orders)
+    && leb (c .orders) 64
+    && (eqb (c .card) 8 || eqb (c .card) 16)
+
+-- "Card type 8 (inputs 0..127) or 16 (inputs 0..255)."
+unfoldable pub inputsOf : Config → ℕ
+inputsOf c = pick (eqb (c .card) 8) 128 256
+
+-- a privileged place whose level is 255 is not used
+abbrev pub unused : Privileged → Bool
+unused p = eqb (p .level) 255
+
+-- "levels in L..L+P-1, each owning one run of inputs, first <= last", on the card
+abbrev pub privilegedGood : Config → Privileged → Bool
+privilegedGood c p = unused p || (configuredOf c (p .level) && leb (p .first) (p .last) && ltb (p .last) (inputsOf c))
+
+-- "distinct levels .. the runs do not meet"
+abbrev pub apartOf : Privileged → Privileged → Bool
+apartOf p q = unused p || unused q || (not (eqb (p .level) (q .level)) && (ltb (p .last) (q .first) || ltb (q .last) (p .first)))
+
+-- one of the three privileged places
+abbrev pub privilegedAt : Config → ℕ → Privileged
+privilegedAt c i = getD (c .privileged) i (record { level = 0; first = 0; last = 0 })
+
+-- "Up to three privileged processes"
+abbrev pub allPrivilegedGood : Config → Bool
+allPrivilegedGood c =
+    privilegedGood c (privilegedAt c 0)
+    && privilegedGood c (privilegedAt c 1)
+    && privilegedGood c (privilegedAt c 2)
+    && apartOf (privilegedAt c 0) (privilegedAt c 1)
+    && apartOf (privilegedAt c 0) (privilegedAt c 2)
+    && apartOf (privilegedAt c 1) (privilegedAt c 2)
+
+-- "Start clock 0..86,399,999. All else is BADCONFIG, and no table comes of it."
+unfoldable pub goodOf : Config → Bool
+goodOf c = levelsGood c && schedulerGood c && placesGood c && allPrivilegedGood c && ltb (c .clock .milliseconds) day

@@ -1,0 +1,5 @@
+pub mod Configuration
+pub mod Answers
+pub mod Wakes
+pub mod Table
+pub mod Sound

@@ -1,0 +1,100 @@
+// The table that holds all areas, what makes one sound, and what every call answers with.
+ghost use mathlib.Core.Path.{_≡_};
+ghost use Rattle.table.specs.Table.{freshOf, refusedOf};
+
+pub mod answers;
+pub mod configs;
+pub mod soundness;
+pub mod wakes;
+
+use answers::Answer;
+use configs::Config;
+use day::TimeOfDay;
+use inputs::InputSet;
+use orders::Orders;
+use process::Process;
+use process::buffers::Message;
+use semaphores::Semaphores;
+use wakes::Wakes;
+
+pub struct Scheduler {
+    pub running: bool,
+    // SHUTDOWN's switch: the next tick stops the scheduler.
+    pub switch: bool,
+}
+
+pub struct Table {
+    pub config: Config,
+    pub clock: TimeOfDay,
+    pub scheduler: Scheduler,
+    // By level. What stands at a level that is not configured makes no difference.
+    pub processes: [Process; 12],
+    pub orders: Orders,
+    pub semaphores: Semaphores,
+    // Which inputs are enabled, and which events came.
+    pub mask: InputSet,
+    pub latch: InputSet,
+}
+
+// What an answer carries, besides its number.
+pub enum Shown {
+    Nothing,
+    Message,
+    Inputs,
+    Number,
+}
+
+// The one result of every call, event and tick.
+pub struct Outcome {
+    pub answer: Answer,
+    pub shown: Shown,
+    // Sixteen zeros where no message is shown.
+    pub message: Message,
+    // Empty where no inputs are shown.
+    pub inputs: InputSet,
+    // The milliseconds of READTIME, or how many orders were carried out; else 0.
+    pub number: u32,
+    pub wakes: Wakes,
+    pub table: Table,
+}
+
+impl Scheduler {
+    pub const STOPPED: Scheduler = Scheduler {
+        running: false,
+        switch: false,
+    };
+}
+
+impl Table {
+    // As a good configuration begins.
+    pub fn fresh(config: Config) -> Table
+        ensures { λ r. ⌜ r ≡ freshOf config ⌝ }
+    {
+        let clock = config.clock;
+        Table {
+            config,
+            clock,
+            scheduler: Scheduler::STOPPED,
+            processes: [Process::fresh(); 12],
+            orders: Orders::none(),
+            semaphores: Semaphores::fresh(),
+            mask: InputSet::empty(),
+            latch: InputSet::empty(),
+        }
+    }
+
+    // The one way to refuse: the number, and nothing else; the table as it was.
+    pub fn refused(self, answer: Answer) -> Outcome
+        ensures { λ r. ⌜ r ≡ refusedOf self answer ⌝ }
+    {
+        Outcome {
+            answer,
+            shown: Shown::Nothing,
+            message: Message::ZEROS,
+            inputs: InputSet::empty(),
+            number: 0,
+            wakes: Wakes::none(),
+            table: self,
+        }
+    }
+}
