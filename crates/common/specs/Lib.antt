@@ -3,3 +3,4 @@ pub mod Every
 pub mod Fold
 pub mod Keep
 pub mod Packing
+pub mod Stands

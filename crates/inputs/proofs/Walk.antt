@@ -1,6 +1,6 @@
 -- A host's walk of a set: the next input, as often as the count says, each taken out in its turn, is the list of members.
 -- That list rises strictly, so no input comes twice, and it has the inputs of the set and no other. Assumes nothing.
-use mathlib.Core.Path.{_≡_, refl, ap, _∙_}
+use mathlib.Core.Path.{_≡_, refl, sym, ap, _∙_}
 use mathlib.Core.Bool.{Bool, true, false}
 use mathlib.Core.List.{List, [], _∷_}
 use Prim.Native.Nat.{ℕ, zero, suc, _+_, _≤_, _<_, zero-le}
@@ -9,6 +9,7 @@ use lib.Dec.{eqb, lit≤}
 use lib.ListN.{length}
 use borrow.Author.Tests.{eq-eqb, ne-eqb, eqb-true, eqb-false}
 use Rattle.common.specs.Choice.{pick}
+use Rattle.common.specs.Stands.{standsIn}
 use Rattle.common.proofs.Cases.{by-test}
 use Rattle.inputs.specs.declared.InputSet.{InputSet}
 use Rattle.inputs.specs.InputSet.{hasOf, removeOf, risingOf, membersOf, countOf, nextOf, walkOf}
@@ -86,16 +87,10 @@ pub members-rising : (set : InputSet) → Rising 0 256 (membersOf set)
 unfolding membersOf
 members-rising set = rising-rises 256 0 256 (hasOf set) (lit≤ tt)
 
--- whether a number stands in a list
-unfoldable pub standsIn : ℕ → List ℕ → Bool
-standsIn n [] = false
-standsIn n (m ∷ l) = pick (eqb n m) true (standsIn n l)
-
--- a number below the first is not among them
 stands-not-below : (n from limit : ℕ) (l : List ℕ) → Rising from limit l → n < from → standsIn n l ≡ false
 unfolding Rising standsIn
 stands-not-below n from limit [] rising h = refl
-stands-not-below n from limit (m ∷ l) rising h = rw (ne-eqb n m (omega arith)) (stands-not-below n (suc m) limit l (rising .2) (omega arith))
+stands-not-below n from limit (m ∷ l) rising h = rw (ne-eqb m n (omega arith)) (stands-not-below n (suc m) limit l (rising .2) (omega arith))
 
 -- a number that does not stand after the head stands in the list where it is the head
 stands-here : (bit : Bool) (n : ℕ) (l : List ℕ) → standsIn n l ≡ false → standsIn n (pick bit (n ∷ l) l) ≡ bit
@@ -104,7 +99,7 @@ stands-here true n l none = rw (eq-eqb n n refl)
 stands-here false n l none = none
 
 -- a head tells nothing of another number
-stands-later : (bit : Bool) (n m : ℕ) (l : List ℕ) → eqb n m ≡ false → standsIn n (pick bit (m ∷ l) l) ≡ standsIn n l
+stands-later : (bit : Bool) (n m : ℕ) (l : List ℕ) → eqb m n ≡ false → standsIn n (pick bit (m ∷ l) l) ≡ standsIn n l
 unfolding standsIn
 stands-later true n m l other = rw other
 stands-later false n m l other = refl
@@ -114,11 +109,11 @@ rising-stands : (many from : ℕ) (test : ℕ → Bool) (n : ℕ) → from ≤ n
 unfolding risingOf
 rising-stands zero from test n above below = absurd (omega arith)
 rising-stands (suc many) from test n above below =
-    by-test (eqb n from)
-    (λ e. let here : n ≡ from = eqb-true n from e in
+    by-test (eqb from n)
+    (λ e. let here : n ≡ from = sym (eqb-true from n e) in
     let later : Rising (suc from) (suc from + many) (risingOf many (suc from) test) = rising-rises many (suc from) (suc from + many) test (omega arith) in
     rw here (stands-here (test from) from _ (stands-not-below from (suc from) _ _ later (omega arith))))
-    (λ e. let other : n ≡ from → ⊥ = eqb-false n from e in
+    (λ e. let other : from ≡ n → ⊥ = eqb-false from n e in
     stands-later (test from) n from _ e ∙ rising-stands many (suc from) test n (omega arith) (omega arith))
 
 -- an input stands among the members of a set where the set has it

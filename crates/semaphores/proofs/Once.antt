@@ -10,7 +10,8 @@ use borrow.Author.Tests.{eqb-true, eqb-false, eq-eqb, ne-eqb}
 use Rattle.common.specs.Choice.{pick}
 use Rattle.common.specs.Keep.{keepOf}
 use Rattle.common.proofs.Cases.{by-test, never-both}
-use Rattle.semaphores.specs.Turns.{standsIn, Once}
+use Rattle.common.specs.Stands.{standsIn}
+use Rattle.semaphores.specs.Turns.{Once}
 use Rattle.semaphores.proofs.Parts.{Part, nothing, taken, left, part-keep}
 
 -- ---- whether a level stands in a list

@@ -15,7 +15,8 @@ use Rattle.common.proofs.Packing.{length-packed}
 use Rattle.semaphores.specs.declared.Semaphores.{Semaphores}
 use Rattle.semaphores.specs.Queues.{nobody, listOf, queued, emptyOf, pushOf, levelsFor}
 use Rattle.semaphores.specs.Semaphores.{usableOf, free, semaphoresOf, freshOf, holderOf, waitersOf, heldBy, waiter, requestOf, holdsOf, releaseOf, releasedFrom}
-use Rattle.semaphores.specs.Turns.{standsIn, Once, waitingOf, Step, requests, releases, releasesAll, mayRequest, stepOf, afterOf, Orderly}
+use Rattle.common.specs.Stands.{standsIn}
+use Rattle.semaphores.specs.Turns.{Once, waitingOf, Step, requests, releases, releasesAll, mayRequest, stepOf, afterOf, Orderly}
 use Rattle.semaphores.proofs.Numbers.{usable-below, holds-usable}
 use Rattle.semaphores.proofs.Parts.{Part, part-map, part-without}
 use Rattle.semaphores.proofs.Once.{stands-cases, stands-here, stands-behind, stands-part, once-part, once-behind, once-below}

@@ -8,16 +8,12 @@ use Prim.Native.Nat.{ℕ, _+_, _-_, _<_, _≤_}
 use lib.Dec.{eqb, ltb}
 use lib.ListN.{length, getD, drop}
 use Rattle.common.specs.Choice.{pick}
+use Rattle.common.specs.Stands.{standsIn}
 use Rattle.semaphores.specs.declared.Semaphores.{Semaphores}
 use Rattle.semaphores.specs.declared.Requested.{Requested}
 use Rattle.semaphores.specs.declared.Requested.the-variants.{Unusable, Held, Waits}
 use Rattle.semaphores.specs.Queues.{listOf}
 use Rattle.semaphores.specs.Semaphores.{usableOf, free, holderOf, holdsOf, waitersOf, requestOf, releaseOf, releasedFrom}
-
--- a level stands in a list
-unfoldable pub standsIn : ℕ → List ℕ → Bool
-standsIn level [] = false
-standsIn level (x ∷ l) = pick (eqb x level) true (standsIn level l)
 
 -- each of a list's levels once
 unfoldable pub Once : List ℕ → Type 0
