@@ -32,6 +32,15 @@ module _ {A : Type 0} (test : A → Bool) where
       (λ e. rw e (omega arith))
       (λ e. rw e (omega arith))
 
+-- what a test keeps is the same after another that keeps all of it
+pub keep-keep : {A : Type 0} (test wider : A → Bool) → ((x : A) → test x ≡ true → wider x ≡ true) → (l : List A) → keepOf test (keepOf wider l) ≡ keepOf test l
+unfolding keepOf
+keep-keep test wider holds [] = refl
+keep-keep test wider holds (x ∷ l) =
+    by-test (test x)
+    (λ kept. rw (holds x kept, kept, keep-keep test wider holds l))
+    (λ left. by-test (wider x) (λ e. rw (e, left, keep-keep test wider holds l)) (λ e. rw (e, left, keep-keep test wider holds l)))
+
 -- a test counts at most once
 pub one-at-most : (b : Bool) → pick b 1 0 ≤ 1
 one-at-most true = omega arith

@@ -33,14 +33,21 @@ atLevel level w = eqb (w .level) level
 unfoldable pub timesOf : ℕ → Queue → ℕ
 timesOf level q = length (keepOf (atLevel level) (listOf q))
 
--- a process: "a number beyond its limit", "a message kept for a process in WM", "a process in WR not queued exactly once, a queued process not in WR"
+-- "a number beyond its limit": a process's priority, and how many messages are kept for it
+abbrev pub processWithin : Config → Process → Bool
+processWithin c p = leb (p .priority) 63 && leb (p .buffer .count) (c .places)
+
+-- "a message kept for a process in WM"
+abbrev pub noneKept : Process → Bool
+noneKept p = not (isOf (p .state) WaitingForMessage) || eqb (p .buffer .count) 0
+
+-- "a process in WR not queued exactly once, a queued process not in WR"
+abbrev pub queuedAsItWaits : Queue → ℕ → Process → Bool
+queuedAsItWaits q level p = eqb (timesOf level q) (pick (isOf (p .state) WaitingForSemaphore) 1 0)
+
+-- what stands at a level that is not configured is not looked at
 unfoldable pub levelSound : Config → Queue → ℕ → Process → Bool
-levelSound c q level p =
-    not (configuredOf c level)
-    || (leb (p .priority) 63
-    && leb (p .buffer .count) (c .places)
-    && (not (isOf (p .state) WaitingForMessage) || eqb (p .buffer .count) 0)
-    && eqb (timesOf level q) (pick (isOf (p .state) WaitingForSemaphore) 1 0))
+levelSound c q level p = not (configuredOf c level) || (processWithin c p && noneKept p && queuedAsItWaits q level p)
 
 -- what is read past the end of an array
 abbrev pub noProcess : Process
@@ -54,48 +61,55 @@ noProcess = record {
 unfoldable pub levelsSound : Config → Queue → List Process → Bool
 levelsSound c q processes = everyBelow 12 (λ level. levelSound c q level (getD processes level noProcess))
 
--- an order: "a level named that is not configured", "a number beyond its limit"
+-- "a level named that is not configured": an order's sender or receiver
+abbrev pub orderNames : Config → Order → Bool
+orderNames c x = configuredOf c (x .sender) && configuredOf c (x .receiver)
+
+-- "a number beyond its limit": an order's due time, interval and count
+abbrev pub orderWithin : Order → Bool
+orderWithin x = ltb (x .due .milliseconds) day && leb 1 (x .every) && leb (x .every) day && leb (x .left) 32767
+
 unfoldable pub orderSound : Config → Order → Bool
-orderSound c x =
-    configuredOf c (x .sender)
-    && configuredOf c (x .receiver)
-    && ltb (x .due .milliseconds) day
-    && leb 1 (x .every)
-    && leb (x .every) day
-    && leb (x .left) 32767
+orderSound c x = orderNames c x && orderWithin x
 
 abbrev pub noOrder : Order
 noOrder = record { sender = 0; receiver = 0; condition = Always; due = at 0; every = 0; left = 0; message = record { bytes = [] } }
 
+-- "a number beyond its limit": more orders than places
 unfoldable pub ordersSound : Config → Orders → Bool
 ordersSound c o = leb (o .count) (c .orders) && everyBelow (min (o .count) 64) (λ i. orderSound c (getD (o .places) i noOrder))
 
--- a holder: "a level named that is not configured"
+-- "a level named that is not configured": a holder
 unfoldable pub holderSound : Config → ℕ → Bool
 holderSound c holder = eqb holder free || configuredOf c holder
 
 unfoldable pub holdersSound : Config → List ℕ → Bool
 holdersSound c holders = everyBelow 96 (λ number. holderSound c (getD holders number 0))
 
--- a waiter: "a queue at a free or an unusable semaphore", "a level named that is not configured"
+-- "a queue at a free or an unusable semaphore", and "a level named that is not configured": a waiter
 unfoldable pub waiterSound : Config → List ℕ → Waiter → Bool
 waiterSound c holders w = pick (usableOf (w .number)) (not (eqb (getD holders (w .number) 0) free) && configuredOf c (w .level)) false
 
 abbrev pub noWaiter : Waiter
 noWaiter = record { level = 0; number = 0 }
 
--- "a number beyond its limit": no more than twelve can wait
+-- "a number beyond its limit": more waiters than levels
 unfoldable pub queueSound : Config → List ℕ → Queue → Bool
 queueSound c holders q = leb (q .count) 12 && everyBelow (min (q .count) 12) (λ i. waiterSound c holders (getD (q .waiters) i noWaiter))
 
--- "a number beyond its limit": no bit of a mask or a latch is beyond the card
+-- "a number beyond its limit": a bit of a mask or a latch beyond the card
 unfoldable pub onCard : Config → InputSet → Bool
 onCard c set = eqb (countOf (exceptOf set (runOf 0 (inputsOf c - 1)))) 0
 
+-- "a number beyond its limit": the clock
+abbrev pub clockWithin : Table → Bool
+clockWithin t = ltb (t .clock .milliseconds) day
+
+-- none of the breaks, "a bad configuration" first
 unfoldable pub soundOf : Table → Bool
 soundOf t =
     goodOf (t .config)
-    && ltb (t .clock .milliseconds) day
+    && clockWithin t
     && levelsSound (t .config) (t .semaphores .queue) (t .processes)
     && ordersSound (t .config) (t .orders)
     && holdersSound (t .config) (t .semaphores .holders)

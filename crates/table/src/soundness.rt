@@ -64,12 +64,12 @@ fn order_sound(config: Config, order: Order) -> bool
     ensures { λ r. ⌜ r ≡ orderSound config order ⌝ }
 {
     let due = order.due;
-    config.has_level(order.sender as u16)
-        & config.has_level(order.receiver as u16)
-        & (due.milliseconds < day::DAY)
+    let named = config.has_level(order.sender as u16) & config.has_level(order.receiver as u16);
+    let within = (due.milliseconds < day::DAY)
         & (1 <= order.every)
         & (order.every <= day::DAY)
-        & (order.left <= 32_767)
+        & (order.left <= 32_767);
+    named & within
 }
 
 fn orders_sound(config: Config, orders: Orders) -> bool
