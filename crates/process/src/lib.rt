@@ -95,10 +95,15 @@ impl Process {
     pub fn cleared(self) -> Process
         ensures { λ r. ⌜ r ≡ clearedOf self ⌝ }
     {
+        let state = self.state;
+        let kept = self.marks;
         let buffer = Buffer::empty();
-        let mut cleared = self;
-        cleared.buffer = buffer;
-        cleared
+        Process {
+            state,
+            priority: self.priority,
+            marks: kept,
+            buffer,
+        }
     }
 
     // Marked because its full buffer lost a message that was sent.
