@@ -1,28 +1,22 @@
 -- What holds of every element of a list. Assumes nothing.
 use mathlib.Core.Path.{_≡_, refl}
-use mathlib.Core.Bool.{Bool, true, false, _&&_}
+use mathlib.Core.Bool.{Bool, true, _&&_}
 use mathlib.Core.List.{List, [], _∷_}
 use Prim.Native.Nat.{ℕ, zero, suc, _+_, _<_}
 use native.Mathlib.Numerals.{add-one}
 use native.Mathlib.Nat.{le-of-suc-le-suc, not-suc-le-zero}
 use native.Mathlib.Omega.{arith}
-use lib.Dec.{T, eqb}
+use lib.Dec.{eqb}
 use borrow.Author.Tests.{eqb-true, eqb-false}
 use lib.ListN.{length, getD}
-use Rattle.common.specs.Choice.{pick}
 use Rattle.common.specs.Every.{every, everyBelow}
-use Rattle.common.proofs.Cases.{by-test, both-true}
-
--- both of two tests that hold together
-pub both-hold : (a b : Bool) → T (pick a b false) → T a × T b
-both-hold true b t = (tt, t)
-both-hold false b t = absurd t
+use Rattle.common.proofs.Cases.{by-test, both, both-true}
 
 -- a test of all, computed once, holds at each place
-pub every-at : {A : Type 0} (test : A → Bool) (l : List A) (d : A) → T (every test l) → (i : ℕ) → i < length l → T (test (getD l i d))
-every-at test [] d t i h = absurd (not-suc-le-zero h)
-every-at test (x ∷ l) d t zero h = both-hold (test x) (every test l) t .0
-every-at test (x ∷ l) d t (suc i) h = every-at test l d (both-hold (test x) (every test l) t .1) i (le-of-suc-le-suc h)
+pub every-at : {A : Type 0} (test : A → Bool) (l : List A) (d : A) → every test l ≡ true → (i : ℕ) → i < length l → test (getD l i d) ≡ true
+every-at test [] d all i h = absurd (not-suc-le-zero h)
+every-at test (x ∷ l) d all zero h = both (test x) (every test l) all .0
+every-at test (x ∷ l) d all (suc i) h = every-at test l d (both (test x) (every test l) all .1) i (le-of-suc-le-suc h)
 
 -- what holds of every number below a limit passes the test of all
 pub below-every : (limit : ℕ) (test : ℕ → Bool) → ((i : ℕ) → i < limit → test i ≡ true) → everyBelow limit test ≡ true

@@ -15,6 +15,15 @@ use Rattle.orders.specs.declared.Cancelled.{Cancelled}
 use Rattle.orders.specs.declared.Cancelled.the-variants.{BadSender, UnknownReceiver, NoOrder, NotFound, NotTheirs, Done}
 use Rattle.orders.specs.Orders.{standingOf, ordersOf}
 
+-- document 01, "Answer numbers": 6 PARAMERROR, 1 RECUNKNOWN, 7 NOTASK, 8 NOTFOUND, 6 again, 0 OK
+abbrev pub cancelledNumber : Cancelled → ℕ
+cancelledNumber BadSender = 6
+cancelledNumber UnknownReceiver = 1
+cancelledNumber NoOrder = 7
+cancelledNumber NotFound = 8
+cancelledNumber NotTheirs = 6
+cancelledNumber Done = 0
+
 -- whose orders are meant: anybody's, or those of one sender and of no other
 unfoldable pub isFrom : Target → Order → Bool
 isFrom All x = true

@@ -4,7 +4,7 @@ ghost use Prim.Native.Nat.{_-_};
 ghost use Rattle.orders.specs.Moments.{intervalOf, delayOf};
 ghost use Rattle.orders.specs.Orders.{noneOf, pushOf, pushIfOf, acceptOf};
 ghost use Rattle.orders.specs.Advance.{dueAt, againOf, onwardOf, advanceOf, nextDueOf};
-ghost use Rattle.orders.specs.Cancel.{isFrom, matchesOf, howManyOf, withoutOf, removedOf, toReceiver, cancelOf};
+ghost use Rattle.orders.specs.Cancel.{cancelledNumber, isFrom, matchesOf, howManyOf, withoutOf, removedOf, toReceiver, cancelOf};
 use day::TimeOfDay;
 use process::Condition;
 use process::Target;
@@ -67,6 +67,22 @@ pub struct Cancel {
 pub struct Onward {
     pub stays: bool,
     pub order: Order,
+}
+
+impl Cancelled {
+    // The answer number of CANCELSCHEDULE.
+    pub fn number(self) -> u8
+        ensures { λ r. ⌜ r ≡ cancelledNumber self ⌝ }
+    {
+        match self {
+            Cancelled::BadSender => 6,
+            Cancelled::UnknownReceiver => 1,
+            Cancelled::NoOrder => 7,
+            Cancelled::NotFound => 8,
+            Cancelled::NotTheirs => 6,
+            Cancelled::Done => 0,
+        }
+    }
 }
 
 // SCHEDULE's `to`, where it is not negative, as an interval: 0 and a day or more are a day.

@@ -4,6 +4,7 @@ use Prim.Native.Nat.{ℕ, _<_, _≤_, min}
 use Rattle.process.specs.declared.states.State.{State}
 use Rattle.process.specs.declared.states.State.the-variants.{Inactive, Ready, WaitingForMessage, WaitingForEvent, WaitingForSemaphore}
 use Rattle.process.specs.declared.states.Cause.the-variants as Cause
+use Rattle.process.specs.declared.states.Next.{Next}
 use Rattle.process.specs.declared.states.Next.the-variants.{Nowhere}
 use Rattle.process.specs.declared.buffers.Message.{Message}
 use Rattle.process.specs.declared.Process.{Process}
@@ -25,6 +26,11 @@ elsewhere WaitingForEvent other = refl
 elsewhere WaitingForSemaphore other = refl
 
 module _ (p : Process) (condition : Condition) (places : ℕ) (m : Message) where
+  -- a delivery goes by where a message leads from the process's state
+  pub deliver-next : (next : Next) → nextOf (p .state) Cause.Message ≡ next → deliverOf p condition places m ≡ deliverTo next p condition places m
+  unfolding deliverOf
+  deliver-next next leads = ap (λ (n : Next). deliverTo n p condition places m) leads
+
   -- a process that waits for a message has it at once, whatever the condition, and is READY
   pub deliver-waiting : p .state ≡ WaitingForMessage → deliverOf p condition places m ≡ handedOf p Ready
   unfolding deliverOf nextOf

@@ -4,10 +4,12 @@ use mathlib.Core.Path.{_≡_, _∙_, refl, ap, sym}
 use mathlib.Core.Bool.{Bool, true, false}
 use mathlib.Core.List.{List, [], _∷_}
 use Prim.Native.Nat.{ℕ, _+_, _<_}
-use lib.Dec.{T, eqb, eqb→eq, lit<}
+use lib.Dec.{eqb, lit<}
+use borrow.Author.Tests.{eqb-true}
 use lib.ListN.{getD}
 use Rattle.common.specs.Choice.{pick}
 use Rattle.common.specs.Every.{every}
+use Rattle.common.proofs.Cases.{never-both}
 use Rattle.common.proofs.Every.{every-at}
 use Rattle.process.specs.declared.states.State.{State}
 use Rattle.process.specs.declared.states.State.the-variants.{Inactive, Ready, WaitingForMessage, WaitingForEvent, WaitingForSemaphore}
@@ -47,12 +49,12 @@ same Nowhere (To t) = false
 same (To s) Nowhere = false
 same (To s) (To t) = eqb (rowOf s) (rowOf t)
 
-same-is : (m n : Next) → T (same m n) → m ≡ n
+same-is : (m n : Next) → same m n ≡ true → m ≡ n
 same-is Nowhere Nowhere h = refl
-same-is Nowhere (To t) h = absurd h
-same-is (To s) Nowhere h = absurd h
+same-is Nowhere (To t) h = absurd (never-both h refl)
+same-is (To s) Nowhere h = absurd (never-both h refl)
 same-is (To s) (To t) h =
-    ap To (sym (row-known s .1) ∙ ap (λ (i : ℕ). getD states i Inactive) (eqb→eq (rowOf s) (rowOf t) h) ∙ row-known t .1)
+    ap To (sym (row-known s .1) ∙ ap (λ (i : ℕ). getD states i Inactive) (eqb-true (rowOf s) (rowOf t) h) ∙ row-known t .1)
 
 -- the table as the code has it: a row for each state, an entry for each cause
 abbrev pub rows : List (List Next)
@@ -72,9 +74,9 @@ abbrev right : State → Cause → Bool
 right s c = same (entryOf s c) (nextOf s c)
 
 -- the test: at each state and each cause the table has the document's entry
-all-right : T (every (λ s. every (right s) causes) states)
+all-right : every (λ s. every (right s) causes) states ≡ true
 unfolding nextOf
-all-right = tt
+all-right = refl
 
 pub entry-next : (s : State) (c : Cause) → entryOf s c ≡ nextOf s c
 entry-next s c =

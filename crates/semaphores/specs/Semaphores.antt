@@ -11,6 +11,7 @@ use Rattle.semaphores.specs.declared.queues.Queue.{Queue}
 use Rattle.semaphores.specs.declared.queues.Leaving.{Leaving}
 use Rattle.semaphores.specs.declared.Semaphores.{Semaphores}
 use Rattle.semaphores.specs.declared.Request.{Request}
+use Rattle.semaphores.specs.declared.Requested.{Requested}
 use Rattle.semaphores.specs.declared.Requested.the-variants.{Unusable, Held, Waits}
 use Rattle.semaphores.specs.declared.Release.{Release}
 use Rattle.semaphores.specs.declared.Released.{Released}
@@ -21,6 +22,18 @@ use Rattle.semaphores.specs.Queues.{emptyOf, pushOf, leavingOf, levelsFo
 -- "Usable: 0..31 and 51..95, as the manual's table has it."
 unfoldable pub usableOf : ℕ → Bool
 usableOf number = pick (leb number 31) true (pick (leb 51 number) (leb number 95) false)
+
+-- document 01, "Answer numbers": 6 PARAMERROR, 0 OK, 32 SUSPENDED
+abbrev pub requestedNumber : Requested → ℕ
+requestedNumber Unusable = 6
+requestedNumber Held = 0
+requestedNumber Waits = 32
+
+-- 15 NOSEMANUMBER, 0 OK
+abbrev pub releasedNumber : Released → ℕ
+releasedNumber NotHeld = 15
+releasedNumber Freed = 0
+releasedNumber (HandedTo level) = 0
 
 -- a holder's place where there is none
 abbrev pub free : ℕ

@@ -1,6 +1,6 @@
 // The semaphores: who holds each, and who waits for one, in order of arrival.
 ghost use mathlib.Core.Path.{_≡_};
-ghost use Rattle.semaphores.specs.Semaphores.{usableOf, freshOf, requestOf, holdsOf, releaseOf, alsoOf, releaseAllOf};
+ghost use Rattle.semaphores.specs.Semaphores.{requestedNumber, releasedNumber, usableOf, freshOf, requestOf, holdsOf, releaseOf, alsoOf, releaseAllOf};
 
 pub mod queues;
 
@@ -12,7 +12,7 @@ use queues::Waiter;
 pub const FREE: u8 = 255;
 
 pub struct Semaphores {
-    // The level that holds each number, or FREE. Numbers that are not usable are never held.
+    // The level that holds each number, or FREE.
     pub holders: [u8; 96],
     // All that wait, for whichever number: a semaphore's own queue is the part with its number.
     pub queue: Queue,
@@ -46,6 +46,32 @@ pub struct ReleaseAll {
     // Who holds one of them now, in the order of their numbers.
     pub woken: Levels,
     pub semaphores: Semaphores,
+}
+
+impl Requested {
+    // The answer number of REQSEMA.
+    pub fn number(self) -> u8
+        ensures { λ r. ⌜ r ≡ requestedNumber self ⌝ }
+    {
+        match self {
+            Requested::Unusable => 6,
+            Requested::Held => 0,
+            Requested::Waits => 32,
+        }
+    }
+}
+
+impl Released {
+    // The answer number of RELSEMA.
+    pub fn number(self) -> u8
+        ensures { λ r. ⌜ r ≡ releasedNumber self ⌝ }
+    {
+        match self {
+            Released::NotHeld => 15,
+            Released::Freed => 0,
+            Released::HandedTo(_) => 0,
+        }
+    }
 }
 
 // The numbers that manual 2.6 has for semaphores.

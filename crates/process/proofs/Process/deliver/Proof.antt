@@ -1,20 +1,20 @@
-use mathlib.Core.Path.{_∙_}
-use Rattle.process.specs.Process.{deliverOf}
+use mathlib.Core.Path.{_∙_, sym}
 use borrow.Author.Needs.{needs}
+use Rattle.process.proofs.Delivering.{deliver-next}
 use Rattle.process.proofs.Process.deliver.Statement.{statement}
 use Rattle.process.proofs.Process.deliver.Tie as tie
 
 returns : tie.Need-returns
-unfolding deliverOf
-returns c = c .handed .ensures ∙ rw (← c .before .before .before .before .next .ensures, c .before .before .next2 .given .1)
+returns c = c .handed .ensures ∙ sym (deliver-next _ _ _ _ _ (sym (c .before .before .before .before .next .ensures) ∙ c .before .before .next2 .given .1))
 
 returns-2 : tie.Need-returns-2
-unfolding deliverOf
-returns-2 c = c .stored .ensures ∙ rw (← c .before .before .before .before .before .next .ensures, c .before .before .before .enum-told .given .1, c .before .enum-told2 .given .1)
+returns-2 c =
+    c .stored .ensures
+    ∙ rw (c .before .enum-told2 .given .1) (sym (deliver-next _ _ _ _ _ (sym (c .before .before .before .before .before .next .ensures) ∙ c .before .before .before .enum-told .given .1)))
 
 returns-3 : tie.Need-returns-3
-unfolding deliverOf
-returns-3 c = rw (← c .before .before .before .before .next .ensures, c .before .before .enum-told .given .1, c .enum-told3 .given .1)
+returns-3 c =
+    rw (c .enum-told3 .given .1) (sym (deliver-next _ _ _ _ _ (sym (c .before .before .before .before .next .ensures) ∙ c .before .before .enum-told .given .1)))
 
 pub deliver-spec : {M : Type 1} → statement M
 deliver-spec =
