@@ -1,9 +1,9 @@
 -- Document 01, "States" and "Messages": one process's record, and how a message reaches it.
-use mathlib.Core.Bool.{true, false}
+use mathlib.Core.Bool.{Bool, true, false}
 use Prim.Native.Nat.{ℕ}
 use Rattle.common.specs.Choice.{pick}
 use Rattle.process.specs.States.{nextOf}
-use Rattle.process.specs.Messages.{emptyOf, putOf}
+use Rattle.process.specs.Messages.{emptyOf, putOf, oldestOf, restOf}
 use Rattle.process.specs.Marks.{marksOf, tellOf}
 use Rattle.process.specs.declared.states.State.{State}
 use Rattle.process.specs.declared.states.State.the-variants.{Inactive}
@@ -19,6 +19,9 @@ use Rattle.process.specs.declared.Condition.{Condition}
 use Rattle.process.specs.declared.Condition.the-variants.{Always, Waiting}
 use Rattle.process.specs.declared.Fate.the-variants.{Handed, Stored, NotWaiting, Full}
 use Rattle.process.specs.declared.Delivery.{Delivery}
+use Rattle.process.specs.declared.Taken.{Taken}
+use Rattle.process.specs.declared.Target.{Target}
+use Rattle.process.specs.declared.Target.the-variants.{All, Level, Unknown}
 
 abbrev pub processOf : State → ℕ → Marks → Buffer → Process
 processOf state priority marks buffer = record { state = state; priority = priority; marks = marks; buffer = buffer }
@@ -77,3 +80,17 @@ deliverTo Nowhere p condition places m = keptOf p condition places m
 -- "A message for a process in WM is handed to it at once and wakes it; a buffer is never filled while its owner is in WM."
 unfoldable pub deliverOf : Process → Condition → ℕ → Message → Delivery
 deliverOf p condition places m = deliverTo (nextOf (p .state) Cause.Message) p condition places m
+
+-- "RECEIVE: oldest message", and "with each message handed over .. one mark is told and cleared"
+unfoldable pub takenOf : Process → Taken
+takenOf p = record {
+  told = tellOf (p .marks) .told;
+  message = oldestOf (p .buffer);
+  process = processOf (p .state) (p .priority) (tellOf (p .marks) .marks) (restOf (p .buffer));
+}
+
+-- somebody is named: all, or one level
+abbrev pub isKnown : Target → Bool
+isKnown All = true
+isKnown (Level level) = true
+isKnown Unknown = false

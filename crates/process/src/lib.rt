@@ -1,6 +1,6 @@
 // One process: its state, priority, marks and message buffer, and how a message reaches it.
 ghost use mathlib.Core.Path.{_≡_};
-ghost use Rattle.process.specs.Process.{freshOf, movedOf, withPriorityOf, clearedOf, overflowMarkedOf, timeMarkedOf, handedOf, storedOf, deliverOf};
+ghost use Rattle.process.specs.Process.{freshOf, movedOf, withPriorityOf, clearedOf, overflowMarkedOf, timeMarkedOf, handedOf, storedOf, deliverOf, takenOf, isKnown};
 
 pub mod buffers;
 pub mod marking;
@@ -48,6 +48,26 @@ pub enum Fate {
 pub struct Delivery {
     pub fate: Fate,
     pub process: Process,
+}
+
+// The oldest message, as its process has taken it.
+pub struct Taken {
+    pub told: Told,
+    pub message: Message,
+    pub process: Process,
+}
+
+impl Target {
+    // Somebody is named.
+    pub fn is_known(self) -> bool
+        ensures { λ r. ⌜ r ≡ isKnown self ⌝ }
+    {
+        match self {
+            Target::All => true,
+            Target::Level(_) => true,
+            Target::Unknown => false,
+        }
+    }
 }
 
 impl Process {
@@ -139,6 +159,30 @@ impl Process {
                     fate: Fate::NotWaiting,
                     process: self,
                 },
+            },
+        }
+    }
+
+    // The oldest message is handed over on the process's own call, and one of its marks is told.
+    pub fn taken(self) -> Taken
+        ensures { λ r. ⌜ r ≡ takenOf self ⌝ }
+    {
+        let state = self.state;
+        let marks = self.marks;
+        let telling = marks.tell();
+        let told = telling.told;
+        let left = telling.marks;
+        let buffer = self.buffer;
+        let message = buffer.oldest();
+        let rest = buffer.rest();
+        Taken {
+            told,
+            message,
+            process: Process {
+                state,
+                priority: self.priority,
+                marks: left,
+                buffer: rest,
             },
         }
     }

@@ -6,15 +6,20 @@ use lib.ListN.{getD}
 use Rattle.common.specs.Choice.{pick}
 use Rattle.day.specs.TimeOfDay.{day}
 use Rattle.table.specs.declared.configs.Config.{Config}
+use Rattle.process.specs.declared.Target.{Target}
+use Rattle.process.specs.declared.Target.the-variants.{All, Level, Unknown}
 use Rattle.table.specs.declared.configs.Privileged.{Privileged}
+use Rattle.table.specs.declared.configs.Privilege.{Privilege}
+use Rattle.table.specs.declared.configs.Privilege.the-variants.{Owns, Nobody}
+use Rattle.table.specs.Words.{minusOne}
 
 -- "Lowest level L, 0 or more, and number of processes P, 1 to 11, with L + P - 1 at most 11."
 abbrev pub levelsGood : Config → Bool
 levelsGood c = leb 1 (c .processes) && leb (c .processes) 11 && leb (c .lowest + c .processes) 12
 
--- a configured level: L..L+P-1
+-- a configured level: L..L+P-1; no level is above 11
 unfoldable pub configuredOf : Config → ℕ → Bool
-configuredOf c level = leb (c .lowest) level && ltb level (c .lowest + c .processes)
+configuredOf c level = leb (c .lowest) level && ltb level (c .lowest + c .processes) && leb level 11
 
 -- "Scheduler level 0 to 11, outside that run."
 abbrev pub schedulerGood : Config → Bool
@@ -62,3 +67,30 @@ allPrivilegedGood c =
 -- "Start clock 0..86,399,999. All else is BADCONFIG, and no table comes of it."
 unfoldable pub goodOf : Config → Bool
 goodOf c = levelsGood c && schedulerGood c && placesGood c && allPrivilegedGood c && ltb (c .clock .milliseconds) day
+
+-- "receiver -1 or configured": whom a call names as its receiver
+unfoldable pub receiverOf : Config → ℕ → Target
+receiverOf c word = pick (eqb word minusOne) All (pick (configuredOf c word) (Level word) Unknown)
+
+-- "sender -1 or 0..11": whose orders a cancel names
+unfoldable pub senderOf : ℕ → Target
+senderOf word = pick (eqb word minusOne) All (pick (leb word 11) (Level word) Unknown)
+
+-- a used place is a level's, and its run has an input
+abbrev pub ofLevel : ℕ → Privileged → Bool
+ofLevel level p = not (unused p) && eqb (p .level) level
+
+abbrev pub hasInput : ℕ → Privileged → Bool
+hasInput input p = not (unused p) && leb (p .first) input && leb input (p .last)
+
+-- the first of the three places of which something is said
+unfoldable pub firstPlace : Config → Bool → Bool → Bool → Privilege
+firstPlace c first second third =
+    pick first (Owns (privilegedAt c 0)) (pick second (Owns (privilegedAt c 1)) (pick third (Owns (privilegedAt c 2)) Nobody))
+
+-- a level's place, and the place that owns an input: levels are distinct and runs do not meet, so there is one at most
+unfoldable pub privilegeOf : Config → ℕ → Privilege
+privilegeOf c level = firstPlace c (ofLevel level (privilegedAt c 0)) (ofLevel level (privilegedAt c 1)) (ofLevel level (privilegedAt c 2))
+
+unfoldable pub ownerOf : Config → ℕ → Privilege
+ownerOf c input = firstPlace c (hasInput input (privilegedAt c 0)) (hasInput input (privilegedAt c 1)) (hasInput input (privilegedAt c 2))

@@ -1,3 +1,4 @@
+pub mod Words
 pub mod Configuration
 pub mod Answers
 pub mod Wakes

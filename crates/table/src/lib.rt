@@ -53,7 +53,7 @@ pub struct Outcome {
     // Empty where no inputs are shown.
     pub inputs: InputSet,
     // The milliseconds of READTIME, or how many orders were carried out; else 0.
-    pub number: u32,
+    pub number: u64,
     pub wakes: Wakes,
     pub table: Table,
 }

@@ -1,0 +1,4 @@
+pub mod Effects
+pub mod Verdicts
+pub mod Levels
+pub mod Outcomes
