@@ -3,6 +3,7 @@ use mathlib.Core.Bool.{Bool, true, false}
 use mathlib.Core.List.{List, [], _∷_, _++_}
 use Prim.Native.Nat.{ℕ, _-_, min}
 use lib.Dec.{eqb}
+use lib.ListN.{length}
 use Rattle.common.specs.Choice.{pick}
 use Rattle.common.specs.Keep.{keepOf}
 use Rattle.day.specs.declared.TimeOfDay.{TimeOfDay}
@@ -19,6 +20,9 @@ dueAt now x = eqb (x .due .milliseconds) (now .milliseconds)
 -- "all orders due at the new time are carried out in order of acceptance", and as many the tick reports
 unfoldable pub dueOf : TimeOfDay → List Order → List Order
 dueOf now l = keepOf (dueAt now) l
+
+unfoldable pub dueCountOf : TimeOfDay → Orders → ℕ
+dueCountOf now o = length (dueOf now (standingOf o))
 
 -- "A finite count falls by 1; ..; otherwise it is next due e later"; a count of 0, which is without end, stays
 abbrev pub againOf : Order → Order

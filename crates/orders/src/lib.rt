@@ -3,7 +3,7 @@ ghost use mathlib.Core.Path.{_≡_};
 ghost use Prim.Native.Nat.{_-_};
 ghost use Rattle.orders.specs.Moments.{intervalOf, delayOf};
 ghost use Rattle.orders.specs.Orders.{noneOf, pushOf, pushIfOf, acceptOf};
-ghost use Rattle.orders.specs.Advance.{dueAt, againOf, onwardOf, advanceOf, nextDueOf};
+ghost use Rattle.orders.specs.Advance.{dueAt, againOf, onwardOf, advanceOf, dueCountOf, nextDueOf};
 ghost use Rattle.orders.specs.Cancel.{cancelledNumber, isFrom, matchesOf, howManyOf, withoutOf, removedOf, toReceiver, cancelOf};
 use day::TimeOfDay;
 use process::Condition;
@@ -252,6 +252,22 @@ impl Orders {
             at += 1;
         }
         advanced
+    }
+
+    // How many orders a moment carries out.
+    pub fn due_count(self, now: TimeOfDay) -> usize
+        ensures { λ r. ⌜ r ≡ dueCountOf now self ⌝ }
+    {
+        let places = self.places;
+        let count = common::least(self.count, MOST_ORDERS);
+        let mut found = 0;
+        let mut at = 0;
+        while at < count {
+            let order = places[at];
+            found += common::one_if(order.is_due(now));
+            at += 1;
+        }
+        found
     }
 
     // How long until an order is next due: a day at most.

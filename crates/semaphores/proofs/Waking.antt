@@ -10,12 +10,9 @@ use Rattle.common.proofs.Cases.{by-test}
 use Rattle.semaphores.specs.declared.queues.Waiter.{Waiter}
 use Rattle.semaphores.specs.declared.queues.Queue.{Queue}
 use Rattle.semaphores.specs.declared.Semaphores.{Semaphores}
-use Rattle.semaphores.specs.Queues.{listOf, waitsFor, levelsFor, withoutFirst, leavingAs, leavingOf}
+use Rattle.semaphores.specs.Queues.{listOf, queued, waitsFor, levelsFor, withoutFirst, leavingAs, leavingOf}
 use Rattle.semaphores.specs.Semaphores.{waitersOf, handedOn, holdsOf, releaseOf, wokenOf, wokenFrom}
-use Rattle.semaphores.specs.Turns.{Orderly}
-use Rattle.semaphores.proofs.Waiting.{list-short}
-use Rattle.semaphores.proofs.Effects.{release-held, release-not-held}
-use Rattle.semaphores.proofs.Orderly.{release-orderly}
+use Rattle.semaphores.proofs.Waiting.{list-short, list-queued}
 
 -- of a list of levels that wait
 handed-wakes : (s : Semaphores) (number : ℕ) (levels : List ℕ) (q : Queue) → wokenOf (handedOn s number (leavingAs levels q) .released) ≡ take 1 levels
@@ -41,27 +38,37 @@ first-leaves number (w ∷ l) =
     (λ e. rw e (omega arith))
     (λ e. rw e (omega (arith, first-leaves number l)))
 
+-- whatever list of levels waits
+handed-leaves : (s : Semaphores) (number : ℕ) (levels : List ℕ)
+    → length (take 1 levels) + length (withoutFirst number (listOf (s .queue))) ≤ length (listOf (s .queue))
+    → length (wokenOf (handedOn s number (leavingAs levels (queued (withoutFirst number (listOf (s .queue))))) .released))
+    + length (listOf (handedOn s number (leavingAs levels (queued (withoutFirst number (listOf (s .queue))))) .semaphores .queue))
+    ≤ length (listOf (s .queue))
+handed-leaves s number [] less = omega arith
+handed-leaves s number (level ∷ levels) less =
+    rw (list-queued (withoutFirst number (listOf (s .queue))) (omega (arith, less, list-short (s .queue)))) (omega (arith, less))
+
 -- so each release leaves so many less in the queue
-release-leaves : (s : Semaphores) (level number : ℕ) → Orderly s
+release-leaves : (s : Semaphores) (level number : ℕ)
     → length (wokenOf (releaseOf s level number .released)) + length (listOf (releaseOf s level number .semaphores .queue)) ≤ length (listOf (s .queue))
-unfolding waitersOf
-release-leaves s level number orderly =
+unfolding releaseOf leavingOf
+release-leaves s level number =
     by-test (holdsOf s level number)
-    (λ e. rw (release-wakes s level number e, release-held s level number orderly e .queue) (first-leaves number (listOf (s .queue))))
-    (λ e. rw (release-wakes-none s level number e, release-not-held s level number e) (omega arith))
+    (λ e. rw e (handed-leaves s number (levelsFor number (listOf (s .queue))) (first-leaves number (listOf (s .queue)))))
+    (λ e. rw e (omega arith))
 
 -- and so do many
-releases-leave : (many number level : ℕ) (s : Semaphores) → Orderly s → length (wokenFrom many number level s) ≤ length (listOf (s .queue))
+releases-leave : (many number level : ℕ) (s : Semaphores) → length (wokenFrom many number level s) ≤ length (listOf (s .queue))
 unfolding wokenFrom
-releases-leave zero number level s orderly = omega arith
-releases-leave (suc many) number level s orderly =
+releases-leave zero number level s = omega arith
+releases-leave (suc many) number level s =
     rw length-append
     (omega (
       arith,
-      release-leaves s level number orderly,
-      releases-leave many (suc number) level (releaseOf s level number .semaphores) (release-orderly s level number orderly),
+      release-leaves s level number,
+      releases-leave many (suc number) level (releaseOf s level number .semaphores),
     ))
 
--- whom a release of all wakes are twelve at most, so that the list of levels has a place for each
-pub all-woken : (level : ℕ) (s : Semaphores) → Orderly s → length (wokenFrom 96 0 level s) ≤ 12
-all-woken level s orderly = omega (arith, releases-leave 96 0 level s orderly, list-short (s .queue))
+-- whom a release of all wakes are twelve at most, however the semaphores stand, so that the list of levels has a place for each
+pub all-woken : (level : ℕ) (s : Semaphores) → length (wokenFrom 96 0 level s) ≤ 12
+all-woken level s = omega (arith, releases-leave 96 0 level s, list-short (s .queue))

@@ -1,0 +1,89 @@
+-- Document 01, "Semaphores": REQSEMA and RELSEMA on the whole table.
+use mathlib.Core.List.{List, [], _∷_, map}
+use Prim.Native.Nat.{ℕ, min}
+use lib.Dec.{eqb}
+use lib.ListN.{set, take}
+use Rattle.common.specs.Choice.{pick}
+use Rattle.common.specs.Fold.{foldOf}
+use Rattle.inputs.specs.InputSet.{emptyOf}
+use Rattle.process.specs.declared.Process.{Process}
+use Rattle.process.specs.declared.states.Cause.the-variants.{WaitForSemaphore, Handover}
+use Rattle.process.specs.Messages.{zeros}
+use Rattle.process.specs.Process.{movedOf}
+use Rattle.semaphores.specs.declared.queues.Levels.{Levels}
+use Rattle.semaphores.specs.declared.Request.{Request}
+use Rattle.semaphores.specs.declared.Requested.{Requested}
+use Rattle.semaphores.specs.declared.Requested.the-variants.{Unusable, Held, Waits}
+use Rattle.semaphores.specs.declared.Release.{Release}
+use Rattle.semaphores.specs.declared.Released.{Released}
+use Rattle.semaphores.specs.declared.Released.the-variants.{NotHeld, Freed, HandedTo}
+use Rattle.semaphores.specs.declared.Semaphores.{Semaphores}
+use Rattle.semaphores.specs.Semaphores.{requestOf as requestsOf, releaseOf as releasesOf, releasedFrom, wokenFrom}
+use Rattle.table.specs.declared.answers.Answer.the-variants.{Ok, ParameterError, NoSemaphoreNumber}
+use Rattle.table.specs.declared.wakes.Wake.{Wake}
+use Rattle.table.specs.declared.wakes.Woken.the-variants.{ByHandover}
+use Rattle.table.specs.declared.Table.{Table}
+use Rattle.table.specs.Wakes.{wakesOf, wakePushOf}
+use Rattle.table.specs.Words.{minusOne}
+use Rattle.calls.specs.Effects.{Effect, refuse, done, suspended, waking}
+use Rattle.calls.specs.Levels.{processAt, withProcesses, withSemaphores, moving}
+use Rattle.calls.specs.Verdicts.{called}
+use Rattle.holding.specs.declared.Handed.{Handed}
+
+-- "6 if not usable; free: the caller holds it; already its own: OK, held once; held by another: 32, WR, last in that queue"
+abbrev pub requestedBy : Requested → Table → Semaphores → ℕ → Effect
+requestedBy Unusable t semaphores caller = refuse t ParameterError
+requestedBy Held t semaphores caller = done (withSemaphores t semaphores)
+requestedBy Waits t semaphores caller = suspended (moving (withSemaphores t semaphores) caller WaitForSemaphore)
+
+unfoldable pub requestedOf : Table → ℕ → ℕ → Effect
+requestedOf t caller number =
+    requestedBy (requestsOf (t .semaphores) caller number .requested) t (requestsOf (t .semaphores) caller number .semaphores) caller
+
+-- "REQSEMA: .."
+unfoldable pub requestOf : Table → ℕ → ℕ → Effect
+requestOf t caller number = called t caller [] (requestedOf t caller number)
+
+-- who waited for a semaphore wakes when it is its own: 0 alone
+abbrev pub handoverWake : ℕ → Wake
+handoverWake level = record { level = level; woken = ByHandover; message = zeros; inputs = emptyOf }
+
+abbrev pub handedAt : List Process → ℕ → List Process
+handedAt processes level = set processes level (movedOf (processAt processes level) Handover)
+
+-- the processes after these have woken, in order
+abbrev pub handedTo : List Process → List ℕ → List Process
+handedTo processes levels = foldOf handedAt processes levels
+
+-- a table of these semaphores, and these levels woken
+abbrev pub handing : Table → Semaphores → List ℕ → Effect
+handing t semaphores levels = waking Ok (map handoverWake levels) (withProcesses (withSemaphores t semaphores) (handedTo (t .processes) levels))
+
+-- "one number, ..; else 15. At a release the first waiter becomes holder and wakes."
+abbrev pub releasedBy : Released → Table → Semaphores → Effect
+releasedBy NotHeld t semaphores = refuse t NoSemaphoreNumber
+releasedBy Freed t semaphores = handing t semaphores []
+releasedBy (HandedTo level) t semaphores = handing t semaphores (level ∷ [])
+
+unfoldable pub releasedOf : Table → ℕ → ℕ → Effect
+releasedOf t caller number = releasedBy (releasesOf (t .semaphores) caller number .released) t (releasesOf (t .semaphores) caller number .semaphores)
+
+-- "-1 for all that the caller holds, rising, OK even if none"
+unfoldable pub releasedAllOf : Table → ℕ → Effect
+releasedAllOf t caller = handing t (releasedFrom 96 0 caller (t .semaphores)) (wokenFrom 96 0 caller (t .semaphores))
+
+-- "RELSEMA: one number, or -1 for all that the caller holds"
+unfoldable pub releaseOf : Table → ℕ → ℕ → Effect
+releaseOf t caller number = called t caller [] (pick (eqb number minusOne) (releasedAllOf t caller) (releasedOf t caller number))
+
+-- how that lies in the code's arrays
+
+unfoldable pub handedToOf : Handed → ℕ → Handed
+handedToOf handed level = record { processes = handedAt (handed .processes) level; wakes = wakePushOf (handed .wakes) (handoverWake level) }
+
+-- the levels that an array of levels has
+unfoldable pub listedOf : Levels → List ℕ
+listedOf woken = take (min (woken .count) 12) (woken .levels)
+
+unfoldable pub handoverOf : List Process → Levels → Handed
+handoverOf processes woken = record { processes = handedTo processes (listedOf woken); wakes = wakesOf (map handoverWake (listedOf woken)) }

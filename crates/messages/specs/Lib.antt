@@ -1,0 +1,3 @@
+pub mod Receivers
+pub mod Sending
+pub mod Receiving

@@ -1,0 +1,236 @@
+// The calls of messages: SEND, RECEIVE, AWAITMESSAGE and CLEARMESSAGE, for a table that is known to be sound.
+ghost use mathlib.Core.Path.{_≡_};
+ghost use Rattle.common.specs.Choice.{pick};
+ghost use Rattle.calls.specs.Effects.{outcomeOf};
+ghost use Rattle.posting.specs.Posting.{postingOf};
+ghost use Rattle.messages.specs.Sending.{sendPosted, broadcastPosted, sentOf, sendOf};
+ghost use Rattle.messages.specs.Receiving.{takingOf, receiveOf, awaitMessageOf, clearingAt, allCleared, clearingFor, clearMessageOf};
+use calls::Verdict;
+use posting::Origin;
+use posting::Posting;
+use process::Condition;
+use process::Process;
+use process::Target;
+use process::buffers::Message;
+use process::states::Cause;
+use table::Outcome;
+use table::Table;
+use table::answers::Answer;
+use table::configs::Config;
+use table::wakes::Wakes;
+
+// A message for every configured level, in rising order, the sender's own included.
+fn broadcast(
+    config: Config,
+    processes: [Process; 12],
+    condition: Condition,
+    message: Message,
+) -> Posting
+    ensures { λ r. ⌜ r ≡ postingOf (broadcastPosted config condition message processes) ⌝ }
+{
+    let places = config.places as usize;
+    let mut posting = Posting::begin(processes);
+    let mut level: u8 = 0;
+    while level < 12 {
+        let wanted = config.has_level(level as u16);
+        posting = posting.post_if(wanted, Origin::Sent, places, level, condition, message);
+        level += 1;
+    }
+    posting
+}
+
+// A message for whoever is named.
+fn posted(
+    config: Config,
+    processes: [Process; 12],
+    target: Target,
+    condition: Condition,
+    message: Message,
+) -> Posting
+    ensures { λ r. ⌜ r ≡ postingOf (sendPosted config target condition message processes) ⌝ }
+{
+    match target {
+        Target::All => broadcast(config, processes, condition, message),
+        Target::Level(level) => {
+            let places = config.places as usize;
+            Posting::begin(processes).post(Origin::Sent, places, level, condition, message)
+        }
+        Target::Unknown => Posting::begin(processes),
+    }
+}
+
+// SEND to somebody there is: with WAITING refused where nobody waited, with ALWAYS where a full buffer lost the message.
+fn sent(table: Table, target: Target, condition: Condition, message: Message) -> Outcome
+    ensures { λ r. ⌜ r ≡ outcomeOf (sentOf table target condition message) ⌝ }
+{
+    let config = table.config;
+    let processes = table.processes;
+    let posting = posted(config, processes, target, condition, message);
+    let processes = posting.processes;
+    let wakes = posting.wakes;
+    let mut served = table;
+    served.processes = processes;
+    match condition {
+        Condition::Waiting => {
+            if wakes.count == 0 {
+                table.refused(Answer::ReceiverNotReady)
+            } else {
+                calls::answered(served, Answer::Ok, wakes)
+            }
+        }
+        Condition::Always => {
+            if posting.full {
+                calls::answered(served, Answer::ReceiverBufferOverflow, wakes)
+            } else {
+                calls::answered(served, Answer::Ok, wakes)
+            }
+        }
+    }
+}
+
+pub fn send(
+    table: Table,
+    caller: u8,
+    receiver: u16,
+    condition: Condition,
+    message: Message,
+) -> Outcome
+    ensures { λ r. ⌜ r ≡ outcomeOf (sendOf table caller receiver condition message) ⌝ }
+{
+    let config = table.config;
+    let processes = table.processes;
+    let process = calls::process_at(processes, caller as u16);
+    let target = config.receiver(receiver);
+    let verdict = calls::caller_checked(config, process, caller).check(
+        target.is_known(),
+        Answer::ReceiverUnknown,
+    );
+    match verdict {
+        Verdict::Refused(answer) => table.refused(answer),
+        Verdict::Passed => sent(table, target, condition, message),
+    }
+}
+
+// The caller's oldest message is handed to it.
+fn taking(table: Table, caller: u8) -> Outcome
+    ensures { λ r. ⌜ r ≡ outcomeOf (takingOf table caller) ⌝ }
+{
+    let processes = table.processes;
+    let taken = calls::process_at(processes, caller as u16).taken();
+    let told = taken.told;
+    let message = taken.message;
+    let process = taken.process;
+    let processes = calls::with_process(processes, caller as u16, process);
+    let mut changed = table;
+    changed.processes = processes;
+    calls::with_message(changed, told, message)
+}
+
+pub fn receive(table: Table, caller: u8) -> Outcome
+    ensures { λ r. ⌜ r ≡ outcomeOf (receiveOf table caller) ⌝ }
+{
+    let config = table.config;
+    let processes = table.processes;
+    let process = calls::process_at(processes, caller as u16);
+    let buffer = process.buffer;
+    let verdict = calls::caller_checked(config, process, caller).check(
+        buffer.count != 0,
+        Answer::BufferEmpty,
+    );
+    match verdict {
+        Verdict::Refused(answer) => table.refused(answer),
+        Verdict::Passed => taking(table, caller),
+    }
+}
+
+pub fn await_message(table: Table, caller: u8) -> Outcome
+    ensures { λ r. ⌜ r ≡ outcomeOf (awaitMessageOf table caller) ⌝ }
+{
+    let config = table.config;
+    let processes = table.processes;
+    let process = calls::process_at(processes, caller as u16);
+    let buffer = process.buffer;
+    let verdict = calls::caller_checked(config, process, caller);
+    match verdict {
+        Verdict::Refused(answer) => table.refused(answer),
+        Verdict::Passed => {
+            if buffer.count == 0 {
+                let process = process.moved(Cause::WaitForMessage);
+                let processes = calls::with_process(processes, caller as u16, process);
+                let mut waiting = table;
+                waiting.processes = processes;
+                calls::answered(waiting, Answer::Suspended, Wakes::none())
+            } else {
+                taking(table, caller)
+            }
+        }
+    }
+}
+
+// The processes, as far as their buffers have been emptied.
+struct Clearing {
+    processes: [Process; 12],
+}
+
+impl Clearing {
+    // One buffer more, where that is wanted.
+    fn at(self, wanted: bool, level: u8) -> Clearing
+        ensures { λ r. ⌜ r ≡ pick wanted (clearingAt self level) self ⌝ }
+    {
+        if wanted {
+            let processes = self.processes;
+            let process = calls::process_at(processes, level as u16).cleared();
+            let processes = calls::with_process(processes, level as u16, process);
+            Clearing { processes }
+        } else {
+            self
+        }
+    }
+}
+
+fn all_cleared(config: Config, processes: [Process; 12]) -> Clearing
+    ensures { λ r. ⌜ r ≡ allCleared config processes ⌝ }
+{
+    let mut clearing = Clearing { processes };
+    let mut level: u8 = 0;
+    while level < 12 {
+        let wanted = config.has_level(level as u16);
+        clearing = clearing.at(wanted, level);
+        level += 1;
+    }
+    clearing
+}
+
+// The buffers of whoever is named are emptied.
+fn cleared(config: Config, processes: [Process; 12], target: Target) -> Clearing
+    ensures { λ r. ⌜ r ≡ clearingFor config target processes ⌝ }
+{
+    match target {
+        Target::All => all_cleared(config, processes),
+        Target::Level(level) => Clearing { processes }.at(true, level),
+        Target::Unknown => Clearing { processes },
+    }
+}
+
+pub fn clear_message(table: Table, caller: u8, receiver: u16) -> Outcome
+    ensures { λ r. ⌜ r ≡ outcomeOf (clearMessageOf table caller receiver) ⌝ }
+{
+    let config = table.config;
+    let processes = table.processes;
+    let process = calls::process_at(processes, caller as u16);
+    let target = config.receiver(receiver);
+    let verdict = calls::caller_checked(config, process, caller).check(
+        target.is_known(),
+        Answer::ReceiverUnknown,
+    );
+    match verdict {
+        Verdict::Refused(answer) => table.refused(answer),
+        Verdict::Passed => {
+            let clearing = cleared(config, processes, target);
+            let processes = clearing.processes;
+            let mut changed = table;
+            changed.processes = processes;
+            calls::answered(changed, Answer::Ok, Wakes::none())
+        }
+    }
+}
