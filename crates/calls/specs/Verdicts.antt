@@ -1,5 +1,5 @@
 -- Document 01, "Answer numbers": "Each process's call checks NOUSER, then NOTREADY, then its own list."
-use mathlib.Core.Bool.{Bool, true, false}
+use mathlib.Core.Bool.{Bool}
 use mathlib.Core.List.{List, [], _∷_}
 use Prim.Native.Nat.{ℕ}
 use Rattle.common.specs.Choice.{pick}

@@ -11,10 +11,8 @@ use Rattle.process.specs.declared.states.Cause.the-variants.{WaitForSemaphore, 
 use Rattle.process.specs.Messages.{zeros}
 use Rattle.process.specs.Process.{movedOf}
 use Rattle.semaphores.specs.declared.queues.Levels.{Levels}
-use Rattle.semaphores.specs.declared.Request.{Request}
 use Rattle.semaphores.specs.declared.Requested.{Requested}
 use Rattle.semaphores.specs.declared.Requested.the-variants.{Unusable, Held, Waits}
-use Rattle.semaphores.specs.declared.Release.{Release}
 use Rattle.semaphores.specs.declared.Released.{Released}
 use Rattle.semaphores.specs.declared.Released.the-variants.{NotHeld, Freed, HandedTo}
 use Rattle.semaphores.specs.declared.Semaphores.{Semaphores}

@@ -1,24 +1,23 @@
 -- Quiet ticks. Assumes nothing.
 use mathlib.Core.Path.{_≡_, _∙_, refl, ap, ap₂, sym, subst}
-use mathlib.Core.Bool.{Bool, true, false}
+use mathlib.Core.Bool.{true, false}
 use mathlib.Core.List.{List, [], _∷_, _++_, append-nil, append-assoc}
-use Prim.Native.Nat.{ℕ, zero, suc, _+_, _-_, _*_, _<_, _≤_, min}
+use Prim.Native.Nat.{ℕ, zero, suc, _+_, _-_, _<_, _≤_, min}
 use native.Mathlib.Omega.{arith}
 use native.Mathlib.Nat.{add-assoc, add-zero, zero-add}
 use native.Mathlib.Numerals.{add-one}
-use Rattle.common.specs.Choice.{pick}
 use Rattle.common.specs.Fold.{foldOf}
 use Rattle.common.proofs.Cases.{by-test}
 use Rattle.common.proofs.Fold.{fold-append}
 use Rattle.common.proofs.Keep.{length-keep}
 use Rattle.day.specs.declared.TimeOfDay.{TimeOfDay}
-use Rattle.day.specs.TimeOfDay.{day, forwardOf, untilOf}
+use Rattle.day.specs.TimeOfDay.{forwardOf}
 use Rattle.day.proofs.Forward.{forward-forward}
 use Rattle.day.proofs.Until.{until-range}
 use Rattle.orders.specs.declared.Order.{Order}
 use Rattle.orders.specs.declared.Orders.{Orders}
 use Rattle.orders.specs.Orders.{standingOf, ordersOf}
-use Rattle.orders.specs.Advance.{dueAt, dueOf, advancing, advanceOf, nextDue, nextDueOf}
+use Rattle.orders.specs.Advance.{dueAt, dueOf, advanceOf, nextDue, nextDueOf}
 use Rattle.orders.proofs.Nearest.{quiet-none, quiet-same}
 use Rattle.orders.proofs.Standing.{standing-orders}
 use Rattle.orders.proofs.Tables.{standing-most}

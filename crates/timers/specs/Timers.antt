@@ -9,7 +9,6 @@ use Rattle.day.specs.declared.Made.the-variants.{Time, BadMillisecond, BadSecon
 use Rattle.day.specs.declared.TimeOfDay.{TimeOfDay}
 use Rattle.day.specs.Fields.{madeOf}
 use Rattle.day.specs.TimeOfDay.{forwardOf}
-use Rattle.orders.specs.declared.Accept.{Accept}
 use Rattle.orders.specs.declared.Cancel.{Cancel}
 use Rattle.orders.specs.declared.Cancelled.{Cancelled}
 use Rattle.orders.specs.declared.Cancelled.the-variants.{BadSender, UnknownReceiver, NoOrder, NotFound, NotTheirs, Done}
