@@ -4,4 +4,6 @@ pub mod Fold
 pub mod Keep
 pub mod Lists
 pub mod Packing
+pub mod Parts
+pub mod Once
 pub mod Shift

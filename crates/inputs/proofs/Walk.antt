@@ -75,7 +75,7 @@ rising-from from limit [] h = tt
 rising-from from limit (n ∷ l) h = (omega arith, h .1, h .2)
 
 -- the numbers that pass rise, below the end of those that are tested
-rising-rises : (many from limit : ℕ) (test : ℕ → Bool) → from + many ≤ limit → Rising from limit (risingOf many from test)
+pub rising-rises : (many from limit : ℕ) (test : ℕ → Bool) → from + many ≤ limit → Rising from limit (risingOf many from test)
 unfolding Rising risingOf
 rising-rises zero from limit test h = tt
 rising-rises (suc many) from limit test h =
@@ -87,7 +87,8 @@ pub members-rising : (set : InputSet) → Rising 0 256 (membersOf set)
 unfolding membersOf
 members-rising set = rising-rises 256 0 256 (hasOf set) (lit≤ tt)
 
-stands-not-below : (n from limit : ℕ) (l : List ℕ) → Rising from limit l → n < from → standsIn n l ≡ false
+-- no number below the first stands among numbers that rise from it on
+pub stands-not-below : (n from limit : ℕ) (l : List ℕ) → Rising from limit l → n < from → standsIn n l ≡ false
 unfolding Rising standsIn
 stands-not-below n from limit [] rising h = refl
 stands-not-below n from limit (m ∷ l) rising h = rw (ne-eqb m n (omega arith)) (stands-not-below n (suc m) limit l (rising .2) (omega arith))
@@ -105,7 +106,7 @@ stands-later true n m l other = rw other
 stands-later false n m l other = refl
 
 -- a number that is tested stands among those that pass where it passes
-rising-stands : (many from : ℕ) (test : ℕ → Bool) (n : ℕ) → from ≤ n → n < from + many → standsIn n (risingOf many from test) ≡ test n
+pub rising-stands : (many from : ℕ) (test : ℕ → Bool) (n : ℕ) → from ≤ n → n < from + many → standsIn n (risingOf many from test) ≡ test n
 unfolding risingOf
 rising-stands zero from test n above below = absurd (omega arith)
 rising-stands (suc many) from test n above below =

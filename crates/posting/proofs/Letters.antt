@@ -19,7 +19,8 @@ pub push-all : (l more : List Wake) → foldOf wakePushOf (wakesOf l) more ≡ w
 push-all l [] = ap wakesOf (sym (append-nil l))
 push-all l (w ∷ more) = rw (push-wakes l w, push-all (l ++ (w ∷ [])) more, append-assoc l (w ∷ []) more)
 
-or-nothing : (b : Bool) → b || false ≡ b
+-- what fails adds nothing to a test
+pub or-nothing : (b : Bool) → b || false ≡ b
 or-nothing true = refl
 or-nothing false = refl
 

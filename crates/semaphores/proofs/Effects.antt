@@ -11,14 +11,14 @@ use borrow.Author.Tests.{eqb-true, eqb-false}
 use Rattle.common.specs.Choice.{pick}
 use Rattle.common.proofs.Cases.{by-test}
 use Rattle.common.proofs.Packing.{length-packed}
+use Rattle.common.proofs.Parts.{part-length}
 use Rattle.semaphores.specs.declared.Semaphores.{Semaphores}
 use Rattle.semaphores.specs.declared.Request.{Request}
 use Rattle.semaphores.specs.declared.Requested.the-variants.{Unusable, Held, Waits}
 use Rattle.semaphores.specs.Queues.{nobody, listOf, queued, pushOf, withoutFirst, leavingAs, leavingOf, levelsFor}
 use Rattle.semaphores.specs.Semaphores.{usableOf, free, semaphoresOf, holderOf, waitersOf, heldBy, waiter, requestOf, handedOn, holdsOf, releaseOf}
 use Rattle.semaphores.specs.Turns.{Orderly}
-use Rattle.semaphores.proofs.Parts.{part-length, part-without}
-use Rattle.semaphores.proofs.Waiting.{list-short, list-queued, levels-without, levels-other, without-none}
+use Rattle.semaphores.proofs.Waiting.{list-short, list-queued, part-without, levels-without, levels-other, without-none}
 
 -- the four ways of a request: the number is not usable, is free, is the level's own already, or is another's
 pub by-request : (P : Request → Type 0) (s : Semaphores) (level number : ℕ)

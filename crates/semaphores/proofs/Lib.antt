@@ -1,6 +1,4 @@
 pub mod Numbers
-pub mod Parts
-pub mod Once
 pub mod Waiting
 pub mod ReleasingAll
 pub mod Effects

@@ -10,17 +10,17 @@ use lib.Seq.{getD-set-other}
 use borrow.Author.Tests.{eqb-true, eqb-false, ltb-true, lt-ltb, not-true}
 use Rattle.common.specs.Choice.{pick}
 use Rattle.common.specs.Keep.{keepOf}
+use Rattle.common.specs.Stands.{standsIn, Once}
 use Rattle.common.proofs.Cases.{by-test, never-both, both}
 use Rattle.common.proofs.Packing.{length-packed}
+use Rattle.common.proofs.Parts.{Part, part-map}
+use Rattle.common.proofs.Once.{stands-cases, stands-here, stands-behind, stands-part, once-part, once-behind, once-below}
 use Rattle.semaphores.specs.declared.Semaphores.{Semaphores}
 use Rattle.semaphores.specs.Queues.{nobody, listOf, queued, emptyOf, pushOf, levelsFor}
 use Rattle.semaphores.specs.Semaphores.{usableOf, free, semaphoresOf, freshOf, holderOf, waitersOf, heldBy, waiter, requestOf, holdsOf, releaseOf, releasedFrom}
-use Rattle.common.specs.Stands.{standsIn}
-use Rattle.semaphores.specs.Turns.{Once, waitingOf, Step, requests, releases, releasesAll, mayRequest, stepOf, afterOf, Orderly}
+use Rattle.semaphores.specs.Turns.{waitingOf, Step, requests, releases, releasesAll, mayRequest, stepOf, afterOf, Orderly}
 use Rattle.semaphores.proofs.Numbers.{usable-below, holds-usable}
-use Rattle.semaphores.proofs.Parts.{Part, part-map, part-without}
-use Rattle.semaphores.proofs.Once.{stands-cases, stands-here, stands-behind, stands-part, once-part, once-behind, once-below}
-use Rattle.semaphores.proofs.Waiting.{list-length, list-push, list-queued, levels-behind, levels-part}
+use Rattle.semaphores.proofs.Waiting.{list-length, list-push, list-queued, part-without, levels-behind, levels-part}
 use Rattle.semaphores.proofs.Effects.{by-request, Passed, release-held, release-not-held, Turn, passed-own, passed-other}
 
 -- nobody stands in an empty list

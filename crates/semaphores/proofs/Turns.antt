@@ -13,12 +13,12 @@ use borrow.Author.Tests.{eqb-true, eqb-false, eq-eqb, ltb-true, ltb-false}
 use Rattle.common.specs.Choice.{pick}
 use Rattle.common.proofs.Cases.{by-test, never-both}
 use Rattle.common.proofs.Lists.{getD-within}
+use Rattle.common.proofs.Once.{stands-at}
 use Rattle.semaphores.specs.declared.Semaphores.{Semaphores}
 use Rattle.semaphores.specs.declared.Requested.the-variants.{Waits}
 use Rattle.semaphores.specs.Semaphores.{free, holderOf, waitersOf, requestOf, holdsOf, releaseOf, releasedFrom}
 use Rattle.semaphores.specs.Turns.{Step, requests, releases, releasesAll, mayRequest, stepOf, afterOf, releasesNumber, releasesOf, joinedBy, joinsOf, Orderly, OneStep, WaitsAt, BeginsToWait, TurnComes}
 use Rattle.semaphores.proofs.Numbers.{usable-below, holds-usable}
-use Rattle.semaphores.proofs.Once.{stands-at}
 use Rattle.semaphores.proofs.Effects.{by-request, release-held, release-not-held, Turn, turn-same, turn-then, turn-before, passed-own, passed-other}
 use Rattle.semaphores.proofs.Orderly.{joined-waiters, release-orderly, step-orderly, after-orderly}
 

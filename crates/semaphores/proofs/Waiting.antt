@@ -13,10 +13,10 @@ use Rattle.common.specs.Keep.{keepOf}
 use Rattle.common.proofs.Cases.{by-test}
 use Rattle.common.proofs.Keep.{keep-append}
 use Rattle.common.proofs.Packing.{take-packed, packed-behind}
+use Rattle.common.proofs.Parts.{Part, nothing, part-map, part-keep, part-first}
 use Rattle.semaphores.specs.declared.queues.Waiter.{Waiter}
 use Rattle.semaphores.specs.declared.queues.Queue.{Queue}
 use Rattle.semaphores.specs.Queues.{nobody, listOf, queued, emptyOf, pushOf, waitsFor, levelsFor, withoutFirst, leavingAs, passedOf, leavingOf, levelled, withOf, noneOf}
-use Rattle.semaphores.proofs.Parts.{Part, part-map, part-keep}
 
 -- a waiter goes behind the list that lies in a queue
 pub push-queued : (l : List Waiter) (w : Waiter) → pushOf (queued l) w ≡ queued (l ++ (w ∷ []))
@@ -90,6 +90,12 @@ module _ (number : ℕ) where
     where
       levels-one : (w : Waiter) → map (λ v. v .level) (keepOf (waitsFor number) (w ∷ [])) ≡ pick (waitsFor number w) (w .level ∷ []) []
       levels-one w = unfold keepOf in by-test (waitsFor number w) (λ e. rw e) (λ e. rw e)
+
+  -- a queue without the first that waits for the number is a part of it
+  pub part-without : (l : List Waiter) → Part (withoutFirst number l) l
+  unfolding withoutFirst
+  part-without [] = nothing
+  part-without (w ∷ l) = part-first (waitsFor number w) w (part-without l)
 
   -- who waits for a number is among those that wait
   pub levels-part : (l : List Waiter) → Part (levelsFor number l) (map (λ w. w .level) l)

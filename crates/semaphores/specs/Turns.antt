@@ -8,17 +8,12 @@ use Prim.Native.Nat.{ℕ, _+_, _-_, _<_, _≤_}
 use lib.Dec.{eqb, ltb}
 use lib.ListN.{length, getD, drop}
 use Rattle.common.specs.Choice.{pick}
-use Rattle.common.specs.Stands.{standsIn}
+use Rattle.common.specs.Stands.{standsIn, Once}
 use Rattle.semaphores.specs.declared.Semaphores.{Semaphores}
 use Rattle.semaphores.specs.declared.Requested.{Requested}
 use Rattle.semaphores.specs.declared.Requested.the-variants.{Unusable, Held, Waits}
 use Rattle.semaphores.specs.Queues.{listOf}
 use Rattle.semaphores.specs.Semaphores.{usableOf, free, holderOf, holdsOf, waitersOf, requestOf, releaseOf, releasedFrom}
-
--- each of a list's levels once
-unfoldable pub Once : List ℕ → Type 0
-Once [] = Unit
-Once (x ∷ l) = (standsIn x l ≡ false) × Once l
 
 -- the levels that wait, for whichever number
 unfoldable pub waitingOf : Semaphores → List ℕ

@@ -5,12 +5,12 @@ use native.Mathlib.Omega.{arith}
 use borrow.Author.Needs.{needs}
 use Rattle.common.specs.Fold.{foldOf}
 use Rattle.inputs.specs.InputSet.{risingOf}
+use Rattle.inputs.proofs.Rising.{rising-turn, rising-end}
 use Rattle.process.specs.declared.Process.{Process}
 use Rattle.table.specs.Configuration.{configuredOf}
 use Rattle.messages.specs.declared.Clearing.{Clearing}
 use Rattle.messages.specs.Receivers.{clearedAt}
 use Rattle.messages.specs.Receiving.{clearedFor, clearingAt, clearingFor}
-use Rattle.messages.proofs.Rising.{rising-turn, rising-end}
 use Rattle.messages.proofs.all_cleared.Statement.{statement}
 use Rattle.messages.proofs.all_cleared.Tie as tie
 

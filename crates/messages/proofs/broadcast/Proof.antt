@@ -6,6 +6,7 @@ use borrow.Author.Needs.{needs}
 use Rattle.common.specs.Fold.{foldOf}
 use Rattle.common.proofs.Fold.{fold-map}
 use Rattle.inputs.specs.InputSet.{risingOf}
+use Rattle.inputs.proofs.Rising.{rising-turn, rising-end}
 use Rattle.process.specs.declared.Condition.{Condition}
 use Rattle.process.specs.declared.Process.{Process}
 use Rattle.process.specs.declared.buffers.Message.{Message}
@@ -16,7 +17,6 @@ use Rattle.posting.specs.declared.Posting.{Posting}
 use Rattle.posting.specs.Posting.{letter, beginOf, postingOf, stepOf}
 use Rattle.posting.proofs.Letters.{posts-begin}
 use Rattle.messages.specs.Sending.{sendPosted, broadcastPosted}
-use Rattle.messages.proofs.Rising.{rising-turn, rising-end}
 use Rattle.messages.proofs.broadcast.Statement.{statement}
 use Rattle.messages.proofs.broadcast.Tie as tie
 

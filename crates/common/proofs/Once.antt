@@ -1,4 +1,4 @@
--- Lists in which each level stands once, and that twelve levels are at most twelve. Assumes nothing.
+-- Lists in which each number stands once, and that numbers below a limit are no more than the limit. Assumes nothing.
 use mathlib.Core.Path.{_≡_, _∙_, refl, sym, ap}
 use mathlib.Core.Bool.{true, false, not}
 use mathlib.Core.List.{List, [], _∷_, _++_}
@@ -7,12 +7,11 @@ use native.Mathlib.Omega.{arith}
 use lib.Dec.{eqb}
 use lib.ListN.{length, getD}
 use borrow.Author.Tests.{eqb-true, eqb-false, eq-eqb, ne-eqb}
 use Rattle.common.specs.Choice.{pick}
 use Rattle.common.specs.Keep.{keepOf}
 use Rattle.common.proofs.Cases.{by-test, never-both}
-use Rattle.common.specs.Stands.{standsIn}
-use Rattle.semaphores.specs.Turns.{Once}
-use Rattle.semaphores.proofs.Parts.{Part, nothing, taken, left, part-keep}
+use Rattle.common.specs.Stands.{standsIn, Once}
+use Rattle.common.proofs.Parts.{Part, nothing, taken, left, part-keep}
 
 -- ---- whether a level stands in a list
 
@@ -26,6 +25,14 @@ pub stands-cases : {P : Type 0} (level x : ℕ) (l : List ℕ) → standsIn leve
 unfolding standsIn
 stands-cases level x l stands here later =
     by-test (eqb x level) (λ e. here (eqb-true _ _ e)) (λ e. later (rw e at stands))
+
+-- what does not stand in a list is not its head, and does not stand behind it
+pub stands-none : (level x : ℕ) (l : List ℕ) → standsIn level (x ∷ l) ≡ false → (level ≡ x → ⊥) × (standsIn level l ≡ false)
+unfolding standsIn
+stands-none level x l none =
+    by-test (eqb x level)
+    (λ e. absurd (never-both refl (rw e at none)))
+    (λ e. ((λ same. eqb-false x level e (sym same)), rw e at none))
 
 -- what stands at a place stands in the list
 pub stands-at : (level : ℕ) (l : List ℕ) (i : ℕ) → i < length l → getD l i 0 ≡ level → standsIn level l ≡ true

@@ -1,13 +1,11 @@
 -- A part of a list, its elements in the list's order. Assumes nothing.
 use mathlib.Core.Bool.{Bool, true, false}
 use mathlib.Core.List.{List, [], _∷_, map}
-use Prim.Native.Nat.{ℕ, _≤_}
+use Prim.Native.Nat.{_≤_}
 use native.Mathlib.Omega.{arith}
 use lib.ListN.{length}
 use Rattle.common.specs.Choice.{pick}
 use Rattle.common.specs.Keep.{keepOf}
-use Rattle.semaphores.specs.declared.queues.Waiter.{Waiter}
-use Rattle.semaphores.specs.Queues.{waitsFor, withoutFirst}
 
 -- of each element of the whole it is told whether it is taken or left
 pub data Part {A : Type 0} : List A → List A → Type 0 where
@@ -44,12 +42,6 @@ part-keep test [] = nothing
 part-keep test (x ∷ l) = part-choice (test x) x (part-keep test l)
 
 -- all after an element, or the element with a part of them
-part-first : {A : Type 0} (b : Bool) (x : A) {l m : List A} → Part l m → Part (pick b m (x ∷ l)) (x ∷ m)
+pub part-first : {A : Type 0} (b : Bool) (x : A) {l m : List A} → Part l m → Part (pick b m (x ∷ l)) (x ∷ m)
 part-first true x {m = m} part = left (part-all m)
 part-first false x part = taken part
-
--- a queue without the first of a number
-pub part-without : (number : ℕ) (l : List Waiter) → Part (withoutFirst number l) l
-unfolding withoutFirst
-part-without number [] = nothing
-part-without number (w ∷ l) = part-first (waitsFor number w) w (part-without number l)
