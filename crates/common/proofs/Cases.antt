@@ -8,6 +8,11 @@ pub by-test : {P : Type 0} (b : Bool) → (b ≡ true → P) → (b ≡ false �
 by-test true f g = f refl
 by-test false f g = g refl
 
+-- what holds of both holds of the one that a test picks
+pub by-pick : {A : Type 0} (P : A → Type 0) (b : Bool) (x y : A) → P x → P y → P (pick b x y)
+by-pick P true x y first second = first
+by-pick P false x y first second = second
+
 -- a test does not both hold and fail
 pub never-both : {b : Bool} → b ≡ true → b ≡ false → ⊥
 never-both holds fails = true≢false (sym holds ∙ fails)

@@ -85,7 +85,7 @@ servedOf origin places x p =
     markedBy origin (deliverOf p (x .condition) places (x .message) .fate) (deliverOf p (x .condition) places (x .message) .process)
 
 -- past the last level nobody waits
-waits-within : (processes : List Process) (level : ℕ) → waits (processAt processes level) ≡ true → level < length processes
+pub waits-within : (processes : List Process) (level : ℕ) → waits (processAt processes level) ≡ true → level < length processes
 unfolding processAt
 waits-within processes level holds =
     by-test (ltb level (length processes))

@@ -1,2 +1,3 @@
 pub mod Guarding
 pub mod Refusing
+pub mod Waking

@@ -1,5 +1,7 @@
 pub mod Configured
 pub mod Empty
 pub mod Fresh
+pub mod Parts
+pub mod Queued
 pub mod Waking
 pub mod Signed

@@ -109,11 +109,11 @@ pub fn tick(table: Table) -> Outcome
 fn quiet(table: Table, ticks: u32) -> u32
     ensures { λ r. ⌜ r ≡ quietOf table ticks ⌝ }
 {
-    let scheduler = table.scheduler;
+    let found = table.scheduler;
     let clock = table.clock;
     let orders = table.orders;
-    if scheduler.running {
-        if scheduler.switch {
+    if found.running {
+        if found.switch {
             0
         } else {
             common::least_u32(ticks, orders.next_due(clock) - 1)
