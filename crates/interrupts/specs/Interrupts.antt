@@ -1,11 +1,12 @@
 -- Document 01, "Inputs".
 use mathlib.Core.Bool.{Bool, false, _&&_}
-use mathlib.Core.List.{[], _∷_}
+use mathlib.Core.List.{List, [], _∷_}
 use Prim.Native.Nat.{ℕ}
 use lib.Dec.{eqb, leb, ltb}
 use Rattle.common.specs.Choice.{pick}
 use Rattle.inputs.specs.declared.InputSet.{InputSet}
 use Rattle.inputs.specs.InputSet.{hasOf, insertOf, removeOf, bothOf, runOf, countOf}
+use Rattle.process.specs.declared.Process.{Process}
 use Rattle.process.specs.Messages.{zeros}
 use Rattle.process.specs.States.{isOf}
 use Rattle.process.specs.declared.states.State.the-variants.{WaitingForEvent}
@@ -20,8 +21,9 @@ use Rattle.table.specs.declared.wakes.Woken.the-variants.{ByEvent}
 use Rattle.table.specs.declared.Table.{Table}
 use Rattle.table.specs.Configuration.{inputsOf, privilegeOf, ownerOf}
 use Rattle.calls.specs.Effects.{Effect, inputs, refuse, done, suspended, carrying, waking}
-use Rattle.calls.specs.Levels.{processOf, withMask, withLatch, moving}
-use Rattle.calls.specs.Verdicts.{check, checked, called}
+use Rattle.calls.specs.Levels.{processAt, processOf, withMask, withLatch, moving}
+use Rattle.calls.specs.declared.Verdict.{Verdict}
+use Rattle.calls.specs.Verdicts.{check, after, byCaller, checked, called}
 
 -- "11 ILLIOADDRESS: no such input"
 abbrev pub isInput : Table → ℕ → Bool
@@ -35,6 +37,10 @@ inRun Nobody input = false
 -- "the caller owns the input"
 abbrev pub ownsInput : Config → ℕ → ℕ → Bool
 ownsInput c level input = inRun (privilegeOf c level) input
+
+-- 10, 33, 11: the checks of every call that names an input
+abbrev pub inputVerdict : Config → List Process → ℕ → ℕ → Verdict
+inputVerdict c processes caller input = after (byCaller c (processAt processes caller) caller) (check (ltb input (inputsOf c)) IllegalInput ∷ [])
 
 -- "ENABLE: 11, then 9 unless the caller owns the input; sets its mask bit."
 unfoldable pub enableOf : Table → ℕ → ℕ → Effect

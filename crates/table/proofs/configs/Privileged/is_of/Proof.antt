@@ -1,0 +1,9 @@
+use mathlib.Core.Path.{refl}
+use Rattle.table.proofs.configs.Privileged.is_of.Statement.{statement}
+use Rattle.table.proofs.configs.Privileged.is_of.Tie as tie
+
+returns : tie.Need-returns
+returns c = refl
+
+pub is-of-spec : {M : Type 1} → statement M
+is-of-spec = tie.close (tie.spec returns)
