@@ -46,7 +46,7 @@ done t = waking Answer.Ok [] t
 abbrev pub suspended : Table → Effect
 suspended t = waking Answer.Suspended [] t
 
--- 0 with a message, inputs or a number is `carrying`
+-- an answer that carries a message, inputs or a number, where nobody wakes
 abbrev pub carrying : Answer → Carried → Table → Effect
 carrying answer carried t = record { answer = answer; carried = carried; wakes = []; table = t }
 

@@ -1,6 +1,6 @@
 -- What holds of every element of a list. Assumes nothing.
-use mathlib.Core.Path.{_≡_, refl}
-use mathlib.Core.Bool.{Bool, true, _&&_}
+use mathlib.Core.Path.{_≡_, refl, sym, ap₂}
+use mathlib.Core.Bool.{Bool, true, false, _&&_}
 use mathlib.Core.List.{List, [], _∷_}
 use Prim.Native.Nat.{ℕ, zero, suc, _+_, _<_}
 use native.Mathlib.Numerals.{add-one}
@@ -34,7 +34,23 @@ every-below (suc limit) test all i h =
     (λ e. rw (eqb-true i limit e) (parts .1))
     (λ e. every-below limit test (parts .0) i (omega (arith, eqb-false i limit e)))
 
+-- two tests that agree below a limit
+pub every-same : (limit : ℕ) (test other : ℕ → Bool) → ((i : ℕ) → i < limit → test i ≡ other i) → everyBelow limit test ≡ everyBelow limit other
+unfolding everyBelow
+every-same zero test other same = refl
+every-same (suc limit) test other same = ap₂ _&&_ (every-same limit test other (λ i h. same i (omega arith))) (same limit (omega arith))
+
 -- one turn of a loop that tests all
 pub every-turn : (i : ℕ) (test : ℕ → Bool) → everyBelow (i + 1) test ≡ everyBelow i test && test i
 unfolding everyBelow
 every-turn i test = rw add-one
+
+-- a loop that tests all, with another test before: before its first turn
+pub first-alone : (first : Bool) → first ≡ first && true
+first-alone true = refl
+first-alone false = refl
+
+-- and at each turn
+pub first-turn : (first : Bool) (i : ℕ) (test : ℕ → Bool) → first && everyBelow i test && test i ≡ first && everyBelow (i + 1) test
+first-turn true i test = sym (every-turn i test)
+first-turn false i test = refl

@@ -2,6 +2,7 @@ pub mod Cases
 pub mod Every
 pub mod Fold
 pub mod Keep
+pub mod Laying
 pub mod Lists
 pub mod Packing
 pub mod Parts

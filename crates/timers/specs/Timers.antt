@@ -1,6 +1,6 @@
 -- Document 01, "Timer orders": the calls.
 use mathlib.Core.Bool.{Bool, true, false, not}
-use mathlib.Core.List.{[], _∷_}
+use mathlib.Core.List.{List, [], _∷_}
 use Prim.Native.Nat.{ℕ}
 use Rattle.common.specs.Choice.{pick}
 use Rattle.day.specs.declared.Fields.{Fields}
@@ -20,12 +20,15 @@ use Rattle.orders.specs.Moments.{intervalOf, delayOf}
 use Rattle.orders.specs.Orders.{acceptOf}
 use Rattle.table.specs.declared.answers.Answer.{Answer}
 use Rattle.table.specs.declared.answers.Answer.the-variants as Answer
+use Rattle.process.specs.declared.Process.{Process}
+use Rattle.table.specs.declared.configs.Config.{Config}
 use Rattle.table.specs.declared.Table.{Table}
 use Rattle.table.specs.Configuration.{configuredOf, receiverOf, senderOf}
 use Rattle.table.specs.Words.{negative16, negative32}
 use Rattle.calls.specs.Effects.{Effect, number, refuse, done, waking, carrying}
-use Rattle.calls.specs.Levels.{withOrders, withScheduler}
-use Rattle.calls.specs.Verdicts.{check, called}
+use Rattle.calls.specs.declared.Verdict.{Verdict}
+use Rattle.calls.specs.Levels.{processAt, withOrders, withScheduler}
+use Rattle.calls.specs.Verdicts.{Check, check, after, byCaller, called}
 use Rattle.timers.specs.declared.Moment.{Moment}
 use Rattle.timers.specs.declared.Moment.the-variants.{After, At, Bad}
 use Rattle.timers.specs.declared.NewOrder.{NewOrder}
@@ -73,14 +76,20 @@ ordered t order =
     (refuse t Answer.TaskListOverflow)
 
 -- "SCHEDULE: .. Checks: 1; then 6 for `to` < 0, count < 0, or, only if absolute, ..; then 13."
-unfoldable pub scheduleOf : Table → ℕ → NewOrder → Effect
-scheduleOf t caller s =
-    called t caller
-    (check (configuredOf (t .config) (s .receiver)) Answer.ReceiverUnknown
+abbrev scheduleChecks : Config → NewOrder → Moment → List Check
+scheduleChecks c s moment =
+    check (configuredOf c (s .receiver)) Answer.ReceiverUnknown
     ∷ check (not (negative32 (s .to))) Answer.ParameterError
     ∷ check (not (negative16 (s .count))) Answer.ParameterError
-    ∷ check (startsWhen (momentOf (s .absolute) (s .time))) Answer.ParameterError
-    ∷ [])
+    ∷ check (startsWhen moment) Answer.ParameterError
+    ∷ []
+
+abbrev pub scheduleVerdict : Config → List Process → ℕ → NewOrder → Moment → Verdict
+scheduleVerdict c processes caller s moment = after (byCaller c (processAt processes caller) caller) (scheduleChecks c s moment)
+
+unfoldable pub scheduleOf : Table → ℕ → NewOrder → Effect
+scheduleOf t caller s =
+    called t caller (scheduleChecks (t .config) s (momentOf (s .absolute) (s .time)))
     (ordered t (orderOf (t .clock) caller (s .receiver) (momentOf (s .absolute) (s .time)) s))
 
 -- 6 PARAMERROR, 1 RECUNKNOWN, 7 NOTASK, 8 NOTFOUND, 6 again, 0 OK

@@ -2,7 +2,7 @@
 // table that is known to be sound.
 ghost use mathlib.Core.Path.{_≡_};
 ghost use Rattle.calls.specs.Effects.{outcomeOf};
-ghost use Rattle.timers.specs.Timers.{momentOf, startsWhen, firstBy, orderOf, ordered, scheduleOf, cancelAnswer, cancelledOf, cancelScheduleOf, shutdownOf, startSchedulerOf, readTimeOf};
+ghost use Rattle.timers.specs.Timers.{momentOf, startsWhen, firstBy, orderOf, ordered, scheduleVerdict, scheduleOf, cancelAnswer, cancelledOf, cancelScheduleOf, shutdownOf, startSchedulerOf, readTimeOf};
 use calls::Verdict;
 use day::Fields;
 use day::Made;
@@ -11,12 +11,14 @@ use orders::Cancelled;
 use orders::First;
 use orders::Order;
 use process::Condition;
+use process::Process;
 use process::buffers::Message;
 use table::Outcome;
 use table::Scheduler;
 use table::Table;
 use table::answers::Answer;
 use table::configs;
+use table::configs::Config;
 use table::wakes::Wakes;
 
 // What SCHEDULE is told. Signed numbers are the words of their bits.
@@ -123,22 +125,35 @@ fn entered(table: Table, order: Order) -> Outcome
     }
 }
 
+// The checks of SCHEDULE, but for the last, which is whether a place is left.
+fn schedule_checked(
+    config: Config,
+    processes: [Process; 12],
+    caller: u8,
+    new: NewOrder,
+    moment: Moment,
+) -> Verdict
+    ensures { λ r. ⌜ r ≡ scheduleVerdict config processes caller new moment ⌝ }
+{
+    let process = calls::process_at(processes, caller as u16);
+    let backward = LONG_NEGATIVE <= new.to;
+    let negative = NEGATIVE <= new.count;
+    calls::caller_checked(config, process, caller)
+        .check(config.has_level(new.receiver), Answer::ReceiverUnknown)
+        .check(!backward, Answer::ParameterError)
+        .check(!negative, Answer::ParameterError)
+        .check(moment.is_good(), Answer::ParameterError)
+}
+
 pub fn schedule(table: Table, caller: u8, new: NewOrder) -> Outcome
     ensures { λ r. ⌜ r ≡ outcomeOf (scheduleOf table caller new) ⌝ }
 {
     let config = table.config;
     let clock = table.clock;
     let processes = table.processes;
-    let process = calls::process_at(processes, caller as u16);
     let time = new.time;
     let moment = moment_of(new.absolute, time);
-    let backward = LONG_NEGATIVE <= new.to;
-    let negative = NEGATIVE <= new.count;
-    let verdict = calls::caller_checked(config, process, caller)
-        .check(config.has_level(new.receiver), Answer::ReceiverUnknown)
-        .check(!backward, Answer::ParameterError)
-        .check(!negative, Answer::ParameterError)
-        .check(moment.is_good(), Answer::ParameterError);
+    let verdict = schedule_checked(config, processes, caller, new, moment);
     match verdict {
         Verdict::Refused(answer) => table.refused(answer),
         Verdict::Passed => {
