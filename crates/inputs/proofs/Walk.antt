@@ -44,7 +44,7 @@ rising-without (suc many) from test first others e =
     (λ none. rw (none, pick-none) (rising-without many (suc from) test first others (rw none at e)))
 
 -- a set without its first member has the others
-members-remove : (set : InputSet) (first : ℕ) (others : List ℕ) → membersOf set ≡ first ∷ others → membersOf (removeOf set first) ≡ others
+pub members-remove : (set : InputSet) (first : ℕ) (others : List ℕ) → membersOf set ≡ first ∷ others → membersOf (removeOf set first) ≡ others
 unfolding membersOf
 members-remove set first others e =
     rising-same 256 0 (hasOf (removeOf set first)) (λ n. pick (eqb n first) false (hasOf set n)) (λ n above below. has-remove n (omega arith) set first)
@@ -62,6 +62,19 @@ unfolding countOf
 walk-members set = walk-list (membersOf set) set refl
 
 -- ---- the list of members
+
+-- no more pass than are tested
+rising-few : (many from : ℕ) (test : ℕ → Bool) → length (risingOf many from test) ≤ many
+unfolding risingOf
+rising-few zero from test = omega arith
+rising-few (suc many) from test =
+    let less : length (risingOf many (suc from) test) ≤ many = rising-few many (suc from) test in
+    by-test (test from) (λ e. rw e (omega arith)) (λ e. rw e (omega arith))
+
+-- a set has at most 256
+pub members-few : (set : InputSet) → length (membersOf set) ≤ 256
+unfolding membersOf
+members-few set = rising-few 256 0 (hasOf set)
 
 -- numbers that rise strictly, from a first one on and below a limit
 unfoldable pub Rising : ℕ → ℕ → List ℕ → Type 0

@@ -1,0 +1,23 @@
+//! The executive of a static library, called in this process: the quickest way to compare many logs.
+//!
+//! This is the one place that needs `unsafe`: a function of another language has no promise that the compiler could
+//! look at. Its promise: it reads `log_length` bytes at `log`, writes at most `out_length` bytes at `out`, keeps
+//! neither, and returns how many bytes the listing has.
+
+#![allow(unsafe_code)]
+
+extern "C" {
+    fn rtms_listing(log: *const u8, log_length: usize, out: *mut u8, out_length: usize) -> usize;
+}
+
+/// More than the listing of any log: 2,047 records, of which each has at most a line of some hundred input numbers
+/// or twelve lines with a message.
+const LONGEST_LISTING: usize = 4 << 20;
+
+/// The listing that the library gives for these bytes, or nothing if it claims more bytes than it was given.
+pub fn listing(log: &[u8]) -> Option<Vec<u8>> {
+    let mut out = vec![0u8; LONGEST_LISTING];
+    // Both parts live and are not moved during the call, and their lengths are their own.
+    let length = unsafe { rtms_listing(log.as_ptr(), log.len(), out.as_mut_ptr(), out.len()) };
+    out.get(..length).map(<[u8]>::to_vec)
+}

@@ -1,0 +1,72 @@
+//! The random logs reach every answer of every kind and every kind of wake.
+
+use crate::coverage::Coverage;
+use crate::damage::damaged;
+use crate::effort::is_small;
+use crate::generator;
+use crate::run::run;
+use std::collections::BTreeSet;
+use std::time::{Duration, Instant};
+
+/// Every kind with the answers that the rules allow it. 10 and 33 belong to every call of a process.
+const ALLOWED: [(u8, &[u8]); 20] = [
+    (0, &[0, 35]),
+    (1, &[0, 1, 2, 3, 10, 33]),
+    (2, &[0, 4, 5, 10, 14, 33]),
+    (3, &[0, 5, 10, 14, 32, 33]),
+    (4, &[0, 1, 10, 33]),
+    (5, &[0, 1, 6, 10, 13, 33]),
+    (6, &[0, 1, 6, 7, 8, 10, 33]),
+    (7, &[0, 10, 33]),
+    (8, &[0, 9, 10, 11, 33]),
+    (9, &[0, 10, 11, 33]),
+    (10, &[0, 9, 10, 32, 33]),
+    (11, &[0, 10, 11, 33]),
+    (12, &[0, 6, 10, 33]),
+    (13, &[0, 6, 10, 32, 33]),
+    (14, &[0, 10, 15, 33]),
+    (15, &[0, 11]),
+    (16, &[0, 6, 10, 34]),
+    (17, &[0]),
+    (18, &[0]),
+    (19, &[0, 10, 33]),
+];
+
+/// Every kind that wakes, with the wake's answers and what it brings.
+const WAKES: [(u8, u8, &str); 8] = [
+    (1, 0, "message"),
+    (1, 5, "message"),
+    (1, 14, "message"),
+    (14, 0, "handover"),
+    (15, 0, "inputs"),
+    (18, 0, "message"),
+    (18, 5, "message"),
+    (18, 14, "message"),
+];
+
+#[test]
+fn random_logs_reach_every_answer_and_every_wake() {
+    let mut coverage = Coverage::default();
+    for seed in 1..=1_000 {
+        coverage.add(&run(&generator::log(seed)));
+    }
+    let allowed: BTreeSet<(u8, u8)> =
+        ALLOWED.iter().flat_map(|(kind, answers)| answers.iter().map(|answer| (*kind, *answer))).collect();
+    let seen: BTreeSet<(u8, u8)> = coverage.answers.keys().copied().collect();
+    assert_eq!(seen, allowed, "{}", coverage.table());
+    let wakes: BTreeSet<(u8, u8, &str)> = coverage.wakes.keys().copied().collect();
+    assert_eq!(wakes, BTreeSet::from(WAKES), "{}", coverage.table());
+    assert_eq!(coverage.bad_logs, 0);
+}
+
+#[test]
+fn no_log_takes_long() {
+    for seed in 1..=300 {
+        for log in [generator::log(seed), damaged(seed).log] {
+            let begin = Instant::now();
+            run(&log);
+            assert!(begin.elapsed() < Duration::from_secs(1), "seed {seed}");
+            assert!(is_small(&log), "seed {seed}");
+        }
+    }
+}
