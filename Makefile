@@ -1,9 +1,42 @@
-.PHONY: test check
+.PHONY: test check demo fuzz golden bench model
 
-# The verdict: every crate is proved from nothing, every must-fail edit is tried, every program is run and compared.
+# How many random logs `make fuzz` compares, and as many damaged ones, and the first seed.
+COUNT ?= 10000
+SEED ?= 1
+
+# The verdict: every crate is proved from nothing, every must-fail edit is tried, every program is run and compared, and whole listings are
+# compared with the independent model's.
 test:
-	rt ci
+	tools/test
 
 # While one works: only what has changed.
 check:
 	rt check
+
+# A plant's morning: demo/morning.txt says what happens, and rtmslog prints what the executive answers.
+demo: model
+	rt check rtmslog
+	tests/target/release/logtext log < demo/morning.txt > target/morning.log
+	@echo '--- demo/morning.txt'
+	@cat demo/morning.txt
+	@echo '--- rtmslog'
+	@tools/run target/bin/rtmslog < target/morning.log
+
+# The executive against the independent model, on as many logs as one likes: make fuzz COUNT=100000 SEED=1
+fuzz: model
+	rt check batch
+	tools/compare $(SEED) $(COUNT)
+
+# The golden listings, written anew by the model. Read every one that changes.
+golden: model
+	tests/target/release/golden tests/golden
+	cp tests/golden/batch.stdin crates/batch/stdin
+	cp tests/golden/batch.stdout crates/batch/stdout
+
+# How long listings take. The proved side is measured on x86-64 alone.
+bench: model
+	tests/target/release/bench
+
+# The model, and the tools around it.
+model:
+	cd tests && cargo build --offline --release --quiet

@@ -14,10 +14,19 @@ extern "C" {
 /// or twelve lines with a message.
 const LONGEST_LISTING: usize = 4 << 20;
 
-/// The listing that the library gives for these bytes, or nothing if it claims more bytes than it was given.
-pub fn listing(log: &[u8]) -> Option<Vec<u8>> {
-    let mut out = vec![0u8; LONGEST_LISTING];
+/// Room for every listing. Making it takes longer than a short listing, so whoever measures keeps it.
+pub fn room() -> Vec<u8> {
+    vec![0u8; LONGEST_LISTING]
+}
+
+/// The listing that the library writes into this room, or nothing if it claims more bytes than it was given.
+pub fn listing_in<'room>(log: &[u8], room: &'room mut [u8]) -> Option<&'room [u8]> {
     // Both parts live and are not moved during the call, and their lengths are their own.
-    let length = unsafe { rtms_listing(log.as_ptr(), log.len(), out.as_mut_ptr(), out.len()) };
-    out.get(..length).map(<[u8]>::to_vec)
+    let length = unsafe { rtms_listing(log.as_ptr(), log.len(), room.as_mut_ptr(), room.len()) };
+    room.get(..length)
+}
+
+/// The listing that the library gives for these bytes, or nothing if it is too long.
+pub fn listing(log: &[u8]) -> Option<Vec<u8>> {
+    listing_in(log, &mut room()).map(<[u8]>::to_vec)
 }

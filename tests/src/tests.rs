@@ -1,5 +1,6 @@
 //! The tests of the model and of its tools.
 
+mod benchmark;
 mod case;
 mod coverage;
 mod form;

@@ -1,0 +1,117 @@
+//! The logs of the benchmark. Fixed seeds make them, so that two runs on two days measure the same work.
+
+use super::writer::{outside, Writer};
+use crate::executive::time::DAY;
+use crate::generator;
+use crate::log::{self, kind, Record, MOST_RECORDS, WAITING};
+use crate::run::{run, Run};
+
+/// The generator's first full log from this seed on is the one with calls of all kinds.
+const MIXED: u64 = 1;
+const MESSAGES: u64 = 2;
+const SEMAPHORES: u64 = 3;
+const ORDERS: u64 = 4;
+
+/// As many processes as there may be.
+const MOST_PROCESSES: i16 = 11;
+
+const HOUR: u32 = 3_600_000;
+
+/// A log to measure.
+pub struct Subject {
+    pub name: String,
+    pub log: Vec<u8>,
+    pub records: usize,
+}
+
+/// The records make a good log by construction, and a test looks at it; the fallback keeps a slip from being a panic.
+fn subject(name: &str, records: Option<Vec<Record>>) -> Subject {
+    let records = records.unwrap_or_default();
+    let log = log::to_bytes(&records).unwrap_or_default();
+    Subject { name: name.to_string(), log, records: records.len() }
+}
+
+/// Every log, in the order of the table.
+pub fn all() -> Vec<Subject> {
+    let mut subjects = vec![
+        Subject { name: "no bytes".to_string(), log: Vec::new(), records: 0 },
+        subject("mixed calls", mixed()),
+        subject("only messages", messages()),
+        subject("only semaphores", semaphores()),
+    ];
+    for (name, ticks) in [("86,400,000", DAY), ("4,294,967,295", u32::MAX)] {
+        for (orders, what) in [(0, "no order"), (1, "1 hourly order"), (64, "64 hourly orders")] {
+            subjects.push(subject(&format!("{name} ticks, {what}"), ticking(orders, ticks)));
+        }
+    }
+    subjects
+}
+
+/// Whether the log is as long as a log may be and is obeyed.
+fn is_full(records: &[Record]) -> bool {
+    records.len() == MOST_RECORDS
+        && log::to_bytes(records).is_ok_and(|log| matches!(run(&log), Run::Obeyed { .. }))
+}
+
+/// One log in some hundred of the generator's is full, so the search is short.
+fn mixed() -> Option<Vec<Record>> {
+    (MIXED..).map(generator::records).find(|records| is_full(records))
+}
+
+/// Sends, receipts and waits. The last READY process wakes the others instead of waiting too.
+fn messages() -> Option<Vec<Record>> {
+    let mut writer = Writer::new(MESSAGES, MOST_PROCESSES)?;
+    while !writer.is_full() {
+        let caller = writer.ready_caller();
+        let level = i16::from(writer.level());
+        let (kind, first_parameter, flags) = match writer.random.below(20) {
+            0..=7 => (kind::SEND, level, 0),
+            8 | 9 => (kind::SEND, level, WAITING),
+            10 => (kind::SEND, -1, 0),
+            11..=15 => (kind::RECEIVE, 0, 0),
+            16..=18 if writer.ready_levels().len() > 1 => (kind::AWAITMESSAGE, 0, 0),
+            16..=18 => (kind::SEND, -1, WAITING),
+            _ => (kind::CLEARMESSAGE, level, 0),
+        };
+        let message = if kind == kind::SEND { writer.message() } else { [0; 16] };
+        writer.add(Record { kind, caller, first_parameter, flags, message, ..Record::default() });
+    }
+    Some(writer.records)
+}
+
+/// The semaphores at the ends of the two usable runs.
+const NUMBERS: [i16; 4] = [0, 31, 51, 95];
+
+/// Requests and releases. Each process asks only for numbers above those that it holds, so that no two wait for each
+/// other and one is always READY.
+fn semaphores() -> Option<Vec<Record>> {
+    let mut writer = Writer::new(SEMAPHORES, MOST_PROCESSES)?;
+    while !writer.is_full() {
+        let caller = writer.ready_caller();
+        let held: Vec<i16> = writer.executive.held_by(caller).into_iter().map(i16::from).collect();
+        let is_above = |number: &i16| held.iter().all(|own| own < number);
+        let above: Vec<i16> = NUMBERS.into_iter().filter(is_above).collect();
+        let (kind, first_parameter) = match (writer.random.pick(&above), writer.random.pick(&held)) {
+            (Some(number), _) if writer.random.chance(50) => (kind::REQSEMA, number),
+            (_, Some(number)) if writer.random.chance(80) => (kind::RELSEMA, number),
+            _ => (kind::RELSEMA, -1),
+        };
+        writer.add(Record { kind, caller, first_parameter, ..Record::default() });
+    }
+    Some(writer.records)
+}
+
+/// Orders of one process for itself, without end, first in an hour and then every hour; and one run of ticks.
+fn ticking(orders: usize, ticks: u32) -> Option<Vec<Record>> {
+    let mut writer = Writer::new(ORDERS, 1)?;
+    writer.add(outside(kind::START_SCHEDULER));
+    let caller = writer.ready_caller();
+    let order = Record { kind: kind::SCHEDULE, caller, amount: HOUR, ..Record::default() };
+    for _ in 0..orders {
+        let message = writer.message();
+        writer.add(Record { first_parameter: i16::from(caller), message, ..order });
+    }
+    // The log ends here: what the ticks do is the matter of those who are measured.
+    writer.records.push(Record { amount: ticks, ..outside(kind::TICKS) });
+    Some(writer.records)
+}

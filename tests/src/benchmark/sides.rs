@@ -1,0 +1,29 @@
+//! The executives that are measured.
+
+/// What gives the listing of a log.
+type Listing = dyn FnMut(&[u8]) -> Vec<u8>;
+
+pub struct Side {
+    pub name: &'static str,
+    pub listing: Box<Listing>,
+}
+
+fn model() -> Side {
+    Side { name: "model", listing: Box::new(crate::listing::listing) }
+}
+
+#[cfg(all(feature = "in-process", target_arch = "x86_64"))]
+pub fn all() -> Vec<Side> {
+    let mut room = crate::in_process::room();
+    // A listing that is too long is none, and so differs from the model's.
+    let proved = move |log: &[u8]| {
+        let listing = crate::in_process::listing_in(log, &mut room);
+        listing.unwrap_or_default().to_vec()
+    };
+    vec![model(), Side { name: "proved", listing: Box::new(proved) }]
+}
+
+#[cfg(not(all(feature = "in-process", target_arch = "x86_64")))]
+pub fn all() -> Vec<Side> {
+    vec![model()]
+}
