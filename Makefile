@@ -1,10 +1,13 @@
-.PHONY: test check demo fuzz golden bench model
+.PHONY: test check edits demo fuzz golden bench model
 
 # How many random logs `make fuzz` compares, and as many damaged ones, and the first seed.
 COUNT ?= 10000
 SEED ?= 1
 
-# The verdict: every crate is proved from nothing, every must-fail edit is tried, every program is run and compared, and whole listings are
+# The crates whose further must-fail edits `make edits` tries: all that have some, unless some are named.
+CRATES ?=
+
+# The verdict: every crate is proved from nothing, the must-fail edits are tried, every program is run and compared, and whole listings are
 # compared with the independent model's.
 test:
 	tools/test
@@ -12,6 +15,10 @@ test:
 # While one works: only what has changed.
 check:
 	rt check
+
+# The further wrong programs, of crates/NAME/more-must-fail: make edits, or make edits CRATES='orders timers'
+edits:
+	tools/edits $(CRATES)
 
 # A plant's morning: demo/morning.txt says what happens, and rtmslog prints what the executive answers.
 demo: model
@@ -23,8 +30,7 @@ demo: model
 	@tools/run target/bin/rtmslog < target/morning.log
 
 # The executive against the independent model, on as many logs as one likes: make fuzz COUNT=100000 SEED=1
-fuzz: model
-	rt check batch
+fuzz:
 	tools/compare $(SEED) $(COUNT)
 
 # The golden listings, written anew by the model. Read every one that changes.
@@ -37,12 +43,11 @@ golden: model
 # emulator says nothing.
 ifeq ($(shell uname -m),x86_64)
 bench:
-	rt staticlib exports
-	cd tests && RTMS_LIBRARY_DIR=$(CURDIR)/target/staticlib cargo build --offline --release --quiet --features in-process
-	tests/target/release/bench
+	tools/library
+	cd bench && RTMS_LIBRARY_DIR=$(CURDIR)/target/staticlib cargo run --offline --release --quiet --features in-process
 else
-bench: model
-	tests/target/release/bench
+bench:
+	cd bench && cargo run --offline --release --quiet
 endif
 
 # The model, and the tools around it.

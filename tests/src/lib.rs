@@ -3,7 +3,6 @@
 #![cfg_attr(not(feature = "in-process"), forbid(unsafe_code))]
 
 pub mod batch;
-pub mod benchmark;
 pub mod comparison;
 pub mod coverage;
 pub mod damage;

@@ -1,6 +1,5 @@
 //! The tests of the model and of its tools.
 
-mod benchmark;
 mod case;
 mod coverage;
 mod form;

@@ -1,9 +1,9 @@
 //! The logs of the benchmark are what their names say.
 
-use crate::benchmark::logs::{all, Subject};
-use crate::listing::listing;
-use crate::log::{kind, read, MOST_RECORDS};
-use crate::run::{run, Run};
+use crate::logs::{all, Subject};
+use rtms_tests::listing::listing;
+use rtms_tests::log::{kind, read, MOST_RECORDS};
+use rtms_tests::run::{run, Run};
 use std::collections::BTreeSet;
 
 fn kinds(subject: &Subject) -> BTreeSet<u8> {

@@ -1,10 +1,10 @@
 //! The logs of the benchmark. Fixed seeds make them, so that two runs on two days measure the same work.
 
-use super::writer::{outside, Writer};
-use crate::executive::time::DAY;
-use crate::generator;
-use crate::log::{self, kind, Record, MOST_RECORDS, WAITING};
-use crate::run::{run, Run};
+use crate::writer::{outside, Writer};
+use rtms_tests::executive::time::DAY;
+use rtms_tests::generator;
+use rtms_tests::log::{self, kind, Record, MOST_RECORDS, WAITING};
+use rtms_tests::run::{run, Run};
 
 /// The generator's first full log from this seed on is the one with calls of all kinds.
 const MIXED: u64 = 1;

@@ -1,8 +1,8 @@
 //! The page that the benchmark prints, in Markdown.
 
-use super::sides::Side;
-use super::timing::Times;
-use super::Measured;
+use crate::sides::Side;
+use crate::timing::Times;
+use crate::Measured;
 
 const NOT_LINKED: &str =
     "The proved side is not linked on this machine: these are the times of the model alone.\n\n";

@@ -38,3 +38,6 @@ pub fn page(rounds: usize) -> Result<String, String> {
     }
     Ok(table::page(&sides, &measured, rounds))
 }
+
+#[cfg(test)]
+mod tests;

@@ -9,15 +9,15 @@ pub struct Side {
 }
 
 fn model() -> Side {
-    Side { name: "model", listing: Box::new(crate::listing::listing) }
+    Side { name: "model", listing: Box::new(rtms_tests::listing::listing) }
 }
 
 #[cfg(all(feature = "in-process", target_arch = "x86_64"))]
 pub fn all() -> Vec<Side> {
-    let mut room = crate::in_process::room();
+    let mut room = rtms_tests::in_process::room();
     // A listing that is too long is none, and so differs from the model's.
     let proved = move |log: &[u8]| {
-        let listing = crate::in_process::listing_in(log, &mut room);
+        let listing = rtms_tests::in_process::listing_in(log, &mut room);
         listing.unwrap_or_default().to_vec()
     };
     vec![model(), Side { name: "proved", listing: Box::new(proved) }]

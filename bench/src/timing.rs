@@ -1,6 +1,6 @@
 //! How long one listing takes.
 
-use super::sides::Side;
+use crate::sides::Side;
 use std::hint::black_box;
 use std::time::{Duration, Instant};
 

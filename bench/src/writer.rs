@@ -1,10 +1,10 @@
 //! A log that is written record by record, with the model at hand to choose callers that are READY.
 
-use crate::executive::configuration::Configuration;
-use crate::executive::process::State;
-use crate::executive::Executive;
-use crate::log::{kind, Record, MOST_RECORDS, NO_CALLER};
-use crate::random::Random;
+use rtms_tests::executive::configuration::Configuration;
+use rtms_tests::executive::process::State;
+use rtms_tests::executive::Executive;
+use rtms_tests::log::{kind, Record, MOST_RECORDS, NO_CALLER};
+use rtms_tests::random::Random;
 
 /// Keeps the random numbers of these logs apart from those of the generator and of the damage.
 const STREAM: u64 = 3;

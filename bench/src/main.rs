@@ -1,6 +1,6 @@
 //! Measures the model and, where it is linked, the proved executive, and prints a table in Markdown.
 
-use rtms_tests::benchmark::page;
+use rtms_bench::page;
 use std::env;
 use std::process::ExitCode;
 
