@@ -1,1 +1,3 @@
 pub mod Obeying
+pub mod Keeping
+pub mod Changing

@@ -1,2 +1,3 @@
 pub mod Handing
 pub mod Room
+pub mod Keeping

@@ -248,7 +248,11 @@ impl Orders {
             let order = places[at];
             let onward = order.onward(now);
             let next = onward.order;
-            advanced = advanced.push_if(onward.stays, next);
+            if onward.stays {
+                let behind = advanced.count;
+                advanced.places[behind] = next;
+                advanced.count = behind + 1;
+            }
             at += 1;
         }
         advanced

@@ -1,3 +1,4 @@
 pub mod Letters
 pub mod Waking
 pub mod Serving
+pub mod Keeping

@@ -100,6 +100,14 @@ beginOf processes = record { processes = processes; wakes = noWakesOf; full = fa
 abbrev pub pushedFor : Wakes → ℕ → Fate → Message → Wakes
 pushedFor wakes level fate m = foldOf wakePushOf wakes (wakeBy level fate m)
 
+-- a message's fate, told behind what was told before
+unfoldable pub toldOf : Posting → ℕ → Fate → Message → Posting
+toldOf posting level fate m = record {
+  processes = posting .processes;
+  wakes = pushedFor (posting .wakes) level fate m;
+  full = posting .full || isFull fate;
+}
+
 -- what became of more messages, after those that were delivered before
 unfoldable pub addedOf : Posting → Posted → Posting
 addedOf posting posted = record {

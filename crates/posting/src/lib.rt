@@ -2,7 +2,8 @@
 // marks of those that lost one and the wakes of those that waited.
 ghost use mathlib.Core.Path.{_≡_};
 ghost use Rattle.common.specs.Choice.{pick};
-ghost use Rattle.posting.specs.Posting.{letter, isFull, isLost, markedBy, beginOf, pushedFor, stepOf};
+ghost use Prim.Native.Nat.{_<_};
+ghost use Rattle.posting.specs.Posting.{letter, isFull, isLost, markedBy, beginOf, pushedFor, toldOf, stepOf};
 use inputs::InputSet;
 use process::Condition;
 use process::Fate;
@@ -104,7 +105,40 @@ impl Posting {
         }
     }
 
-    // One message to one level, with so many places in its buffer.
+    // What became of a message, told behind what was told before.
+    fn told(self, level: u8, fate: Fate, message: Message) -> Posting
+        ensures { λ r. ⌜ r ≡ toldOf self level fate message ⌝ }
+    {
+        let mut posting = self;
+        let wakes = posting.wakes;
+        posting.wakes = pushed(wakes, level, fate, message);
+        posting.full = posting.full | is_full(fate);
+        posting
+    }
+
+    // One message to one of the twelve levels.
+    fn served(
+        self,
+        origin: Origin,
+        places: usize,
+        receiver: u8,
+        condition: Condition,
+        message: Message,
+    ) -> Posting
+        requires { ⌜ receiver < 12 ⌝ }
+        ensures { λ r. ⌜ r ≡ stepOf origin places self (letter receiver condition message) ⌝ }
+    {
+        let mut posting = self;
+        let process = posting.processes[receiver as usize];
+        let delivery = process.deliver(condition, places, message);
+        let fate = delivery.fate;
+        let after = delivery.process;
+        posting.processes[receiver as usize] = marked(origin, fate, after);
+        posting.told(receiver, fate, message)
+    }
+
+    // One message to one level, with so many places in its buffer. At a level that there is not, a process that was never started stands
+    // in for the receiver, and nobody's record changes.
     pub fn post(
         self,
         origin: Origin,
@@ -115,20 +149,12 @@ impl Posting {
     ) -> Posting
         ensures { λ r. ⌜ r ≡ stepOf origin places self (letter receiver condition message) ⌝ }
     {
-        let processes = self.processes;
-        let wakes = self.wakes;
-        let process = calls::process_at(processes, receiver as u16);
-        let delivery = process.deliver(condition, places, message);
-        let fate = delivery.fate;
-        let after = delivery.process;
-        let after = marked(origin, fate, after);
-        let processes = calls::with_process(processes, receiver as u16, after);
-        let wakes = pushed(wakes, receiver, fate, message);
-        let full = self.full | is_full(fate);
-        Posting {
-            processes,
-            wakes,
-            full,
+        if receiver < 12 {
+            self.served(origin, places, receiver, condition, message)
+        } else {
+            let delivery = Process::fresh().deliver(condition, places, message);
+            let fate = delivery.fate;
+            self.told(receiver, fate, message)
         }
     }
 

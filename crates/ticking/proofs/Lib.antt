@@ -1,3 +1,4 @@
 pub mod Carrying
+pub mod Keeping
 pub mod Quieting
 pub mod Waking

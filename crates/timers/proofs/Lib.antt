@@ -1,2 +1,3 @@
 pub mod Cancels
 pub mod Fitting
+pub mod Keeping

@@ -1,0 +1,4 @@
+pub mod Runs
+pub mod Sight
+pub mod Turns
+pub mod Schedules
