@@ -90,7 +90,7 @@ times-behind level number by q r behind =
     (by-test (eqb by level) (λ e. rw e) (λ e. rw e))
 
 -- who is queued no time does not stand in the queue
-times-none : (level : ℕ) (l : List Waiter) → length (keepOf (atLevel level) l) ≡ 0 → standsIn level (map (λ w. w .level) l) ≡ false
+pub times-none : (level : ℕ) (l : List Waiter) → length (keepOf (atLevel level) l) ≡ 0 → standsIn level (map (λ w. w .level) l) ≡ false
 unfolding keepOf standsIn
 times-none level [] none = refl
 times-none level (w ∷ l) none =
@@ -346,7 +346,7 @@ module _ (c : Config) (s : Semaphores) (ps : List Process) (caller number : ℕ)
   caller-times = ready-times c (s .queue) (s .queue) caller (processAt ps caller) configured caller-sound ready
 
   -- so it may request
-  caller-may : mayRequest s caller ≡ true
+  pub caller-may : mayRequest s caller ≡ true
   unfolding mayRequest waitingOf timesOf
   caller-may = rw (lt-ltb caller 12 caller-level, times-none caller (listOf (s .queue)) caller-times)
 

@@ -240,12 +240,11 @@ impl Orders {
     pub fn advance(self, now: TimeOfDay) -> Orders
         ensures { λ r. ⌜ r ≡ advanceOf now self ⌝ }
     {
-        let places = self.places;
         let count = common::least(self.count, MOST_ORDERS);
         let mut advanced = Orders::none();
         let mut at = 0;
         while at < count {
-            let order = places[at];
+            let order = self.places[at];
             let onward = order.onward(now);
             let next = onward.order;
             if onward.stays {
@@ -262,12 +261,11 @@ impl Orders {
     pub fn due_count(self, now: TimeOfDay) -> usize
         ensures { λ r. ⌜ r ≡ dueCountOf now self ⌝ }
     {
-        let places = self.places;
         let count = common::least(self.count, MOST_ORDERS);
         let mut found = 0;
         let mut at = 0;
         while at < count {
-            let order = places[at];
+            let order = self.places[at];
             found += common::one_if(order.is_due(now));
             at += 1;
         }
@@ -278,12 +276,11 @@ impl Orders {
     pub fn next_due(self, clock: TimeOfDay) -> u32
         ensures { λ r. ⌜ r ≡ nextDueOf clock self ⌝ }
     {
-        let places = self.places;
         let count = common::least(self.count, MOST_ORDERS);
         let mut nearest = day::DAY;
         let mut at = 0;
         while at < count {
-            let order = places[at];
+            let order = self.places[at];
             let due = order.due;
             nearest = common::least_u32(nearest, clock.until(due));
             at += 1;

@@ -56,6 +56,13 @@ unfoldable pub markedBy : Origin → Fate → Process → Process
 markedBy Sent fate p = pick (isFull fate) (overflowMarkedOf p) p
 markedBy Timed fate p = pick (isLost fate) (timeMarkedOf p) p
 
+-- a message at its receiver, with that mark
+unfoldable pub deliveredTo : Origin → ℕ → Condition → Message → Process → Delivery
+deliveredTo origin places condition m p = record {
+  fate = deliverOf p condition places m .fate;
+  process = markedBy origin (deliverOf p condition places m .fate) (deliverOf p condition places m .process);
+}
+
 -- a receiver's wake: its message, and what is told with it
 abbrev pub messageWake : ℕ → Told → Message → Wake
 messageWake level told m = record { level = level; woken = ByMessage told; message = m; inputs = emptyOf }
@@ -99,14 +106,6 @@ beginOf processes = record { processes = processes; wakes = noWakesOf; full = fa
 
 abbrev pub pushedFor : Wakes → ℕ → Fate → Message → Wakes
 pushedFor wakes level fate m = foldOf wakePushOf wakes (wakeBy level fate m)
-
--- a message's fate, told behind what was told before
-unfoldable pub toldOf : Posting → ℕ → Fate → Message → Posting
-toldOf posting level fate m = record {
-  processes = posting .processes;
-  wakes = pushedFor (posting .wakes) level fate m;
-  full = posting .full || isFull fate;
-}
 
 -- what became of more messages, after those that were delivered before
 unfoldable pub addedOf : Posting → Posted → Posting

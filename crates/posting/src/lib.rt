@@ -2,10 +2,10 @@
 // marks of those that lost one and the wakes of those that waited.
 ghost use mathlib.Core.Path.{_≡_};
 ghost use Rattle.common.specs.Choice.{pick};
-ghost use Prim.Native.Nat.{_<_};
-ghost use Rattle.posting.specs.Posting.{letter, isFull, isLost, markedBy, beginOf, pushedFor, toldOf, stepOf};
+ghost use Rattle.posting.specs.Posting.{letter, isFull, isLost, markedBy, deliveredTo, beginOf, pushedFor, stepOf};
 use inputs::InputSet;
 use process::Condition;
+use process::Delivery;
 use process::Fate;
 use process::Process;
 use process::buffers::Message;
@@ -30,7 +30,7 @@ pub struct Posting {
 }
 
 // The message was lost by a full buffer.
-fn is_full(fate: Fate) -> bool
+pub fn is_full(fate: Fate) -> bool
     ensures { λ r. ⌜ r ≡ isFull fate ⌝ }
 {
     match fate {
@@ -76,8 +76,25 @@ fn marked(origin: Origin, fate: Fate, process: Process) -> Process
     }
 }
 
+// A message at its receiver, with the mark that it leaves where it is lost.
+pub fn delivered(
+    origin: Origin,
+    places: usize,
+    condition: Condition,
+    message: Message,
+    process: Process,
+) -> Delivery
+    ensures { λ r. ⌜ r ≡ deliveredTo origin places condition message process ⌝ }
+{
+    let delivery = process.deliver(condition, places, message);
+    let fate = delivery.fate;
+    let after = delivery.process;
+    let process = marked(origin, fate, after);
+    Delivery { fate, process }
+}
+
 // The wakes, and the receiver's own behind them if the message was handed over.
-fn pushed(wakes: Wakes, level: u8, fate: Fate, message: Message) -> Wakes
+pub fn pushed(wakes: Wakes, level: u8, fate: Fate, message: Message) -> Wakes
     ensures { λ r. ⌜ r ≡ pushedFor wakes level fate message ⌝ }
 {
     match fate {
@@ -105,38 +122,6 @@ impl Posting {
         }
     }
 
-    // What became of a message, told behind what was told before.
-    fn told(self, level: u8, fate: Fate, message: Message) -> Posting
-        ensures { λ r. ⌜ r ≡ toldOf self level fate message ⌝ }
-    {
-        let mut posting = self;
-        let wakes = posting.wakes;
-        posting.wakes = pushed(wakes, level, fate, message);
-        posting.full = posting.full | is_full(fate);
-        posting
-    }
-
-    // One message to one of the twelve levels.
-    fn served(
-        self,
-        origin: Origin,
-        places: usize,
-        receiver: u8,
-        condition: Condition,
-        message: Message,
-    ) -> Posting
-        requires { ⌜ receiver < 12 ⌝ }
-        ensures { λ r. ⌜ r ≡ stepOf origin places self (letter receiver condition message) ⌝ }
-    {
-        let mut posting = self;
-        let process = posting.processes[receiver as usize];
-        let delivery = process.deliver(condition, places, message);
-        let fate = delivery.fate;
-        let after = delivery.process;
-        posting.processes[receiver as usize] = marked(origin, fate, after);
-        posting.told(receiver, fate, message)
-    }
-
     // One message to one level, with so many places in its buffer. At a level that there is not, a process that was never started stands
     // in for the receiver, and nobody's record changes.
     pub fn post(
@@ -149,13 +134,23 @@ impl Posting {
     ) -> Posting
         ensures { λ r. ⌜ r ≡ stepOf origin places self (letter receiver condition message) ⌝ }
     {
+        let mut posting = self;
+        let wakes = posting.wakes;
         if receiver < 12 {
-            self.served(origin, places, receiver, condition, message)
+            let process = posting.processes[receiver as usize];
+            let delivery = delivered(origin, places, condition, message, process);
+            let fate = delivery.fate;
+            let after = delivery.process;
+            posting.processes[receiver as usize] = after;
+            posting.wakes = pushed(wakes, receiver, fate, message);
+            posting.full = posting.full | is_full(fate);
         } else {
             let delivery = Process::fresh().deliver(condition, places, message);
-            let fate = delivery.fate;
-            self.told(receiver, fate, message)
+            let missed = delivery.fate;
+            posting.wakes = pushed(wakes, receiver, missed, message);
+            posting.full = posting.full | is_full(missed);
         }
+        posting
     }
 
     // The same, where the message is for this level at all.

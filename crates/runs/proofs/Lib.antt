@@ -1,0 +1,15 @@
+pub mod Steady
+pub mod Answering
+pub mod Calm
+pub mod Unbroken
+pub mod Handing
+pub mod Still
+pub mod Acting
+pub mod Seeing
+pub mod Asking
+pub mod Sights
+pub mod Turns
+pub mod Ordering
+pub mod Following
+pub mod Schedules
+pub mod Witnesses

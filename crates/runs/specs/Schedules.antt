@@ -160,8 +160,8 @@ abbrev pub OrdersKeepTime : Type 0
 OrdersKeepTime = (c : Config) (before : List Call) (caller : ℕ) (new : NewOrder) → Accepted c before caller new
     → (later : List Call) → Undisturbed (orderBy (runOf c before) caller new) later (acceptedAt c before caller new)
     → KeepsTime (orderBy (runOf c before) caller new) (firstDelay (runOf c before) new) (ticksIn later)
-        (timedOf (afterOf later (acceptedAt c before caller new)))
-        (followedOn later (acceptedAt c before caller new) (firstPlace c before))
+    (timedOf (afterOf later (acceptedAt c before caller new)))
+    (followedOn later (acceptedAt c before caller new) (firstPlace c before))
 
 -- "carried out" means what demand 2 says: a tick delivers the messages of the orders that are due, in order of acceptance, and reports how many
 -- these are
@@ -172,7 +172,7 @@ pub record Delivers (t : Table) : Type 0 where
   -- an order that is carried out is one of them, behind those that are due and stand before it
   pub among : (i : ℕ) → i < length (standingOf (t .orders)) → CarriedOut (timedOf t) (place i)
       → getD (dueNow (forwardOf (t .clock) 1) t) (length (dueOf (forwardOf (t .clock) 1) (take i (standingOf (t .orders))))) noOrder
-          ≡ getD (standingOf (t .orders)) i noOrder
+      ≡ getD (standingOf (t .orders)) i noOrder
 
 abbrev pub TicksDeliver : Type 0
 TicksDeliver = (c : Config) → goodOf c ≡ true → (steps : List Call) → Running (runOf c steps) → Delivers (runOf c steps)

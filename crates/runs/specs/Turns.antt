@@ -55,7 +55,7 @@ pub record TurnComes (c : Config) (before : List Call) (level number k : ℕ) : 
   pub at-the-kth : (later : List Call) (x : Call)
       → releasesSeen number (seenOf later (askedAt c before level number)) (sightThen c before level number) + 1 ≡ k
       → isRelease number (seenAs x (afterOf later (askedAt c before level number)))
-          (sightOf number (seenOf later (askedAt c before level number)) (sightThen c before level number)) ≡ true
+      (sightOf number (seenOf later (askedAt c before level number)) (sightThen c before level number)) ≡ true
       → Obtains level number x (afterOf later (askedAt c before level number))
 
 abbrev pub TurnsAreKept : Type 0

@@ -68,7 +68,7 @@ module _ (level number : ℕ) where
       turn-before first (rw (← holds-same s after (first .holder)) (releases-own many (suc from) after later (omega arith) (omega arith))))
 
   -- a release of all turns the queue of each number that the level holds, and of no other
-  release-all : (s : Semaphores) → Orderly s → Turn (holdsOf s level number) number s (releasedFrom 96 0 level s)
+  pub release-all : (s : Semaphores) → Orderly s → Turn (holdsOf s level number) number s (releasedFrom 96 0 level s)
   release-all s orderly =
       by-test (ltb number 96)
       (λ e. releases-own 96 0 s orderly (omega arith) (ltb-true _ _ e))

@@ -29,7 +29,6 @@ fn carried_out(
 ) -> Posting
     ensures { λ r. ⌜ r ≡ carriedFrom places orders now processes wakes ⌝ }
 {
-    let standing = orders.places;
     let count = common::least(orders.count, orders::MOST_ORDERS);
     let mut posting = Posting {
         processes,
@@ -38,18 +37,30 @@ fn carried_out(
     };
     let mut at = 0;
     while at < count {
-        let order = standing[at];
-        let condition = order.condition;
-        let message = order.message;
-        let due = order.is_due(now);
-        posting = posting.post_if(
-            due,
-            Origin::Timed,
-            places,
-            order.receiver,
-            condition,
-            message,
-        );
+        let order = orders.places[at];
+        if order.is_due(now) {
+            let receiver = order.receiver;
+            let condition = order.condition;
+            let message = order.message;
+            if receiver < 12 {
+                let process = posting.processes[receiver as usize];
+                let delivery = posting::delivered(
+                    Origin::Timed,
+                    places,
+                    condition,
+                    message,
+                    process,
+                );
+                let fate = delivery.fate;
+                let after = delivery.process;
+                let told = posting.wakes;
+                posting.processes[receiver as usize] = after;
+                posting.wakes = posting::pushed(told, receiver, fate, message);
+                posting.full = posting.full | posting::is_full(fate);
+            } else {
+                posting = posting.post(Origin::Timed, places, receiver, condition, message);
+            }
+        }
         at += 1;
     }
     posting

@@ -22,15 +22,15 @@ abbrev counting : TimeOfDay → ℕ → Order → ℕ
 counting now n x = n + pick (dueAt now x) 1 0
 
 abbrev Inv-loop : tie.InvT-loop
-Inv-loop now places count found₀ at₀ found at =
+Inv-loop now self count found₀ at₀ found at =
     (at ≤ count)
     × (found ≤ at)
-    × (foldOf (counting now) found (drop at (take count places)) ≡ foldOf (counting now) 0 (take count places))
+    × (foldOf (counting now) found (drop at (take count (self .places))) ≡ foldOf (counting now) 0 (take count (self .places)))
 
 abbrev μ-loop : tie.MeasureT-loop
-μ-loop now places count found₀ at₀ found at = count - at
+μ-loop now self count found₀ at₀ found at = count - at
 
-long : (c : tie.Start Inv-loop μ-loop) → length (c .args .self .places) ≡ 64
+long : (c : tie.Start Inv-loop μ-loop) → length (c .args .t1 .places) ≡ 64
 long c = search (needs, of-map)
 
 loop-holds : tie.Need-loop-holds Inv-loop μ-loop
@@ -41,25 +41,25 @@ add-found c = omega (arith, c .one-if .ensures, one-at-most (c .before .is-due .
 
 loop-again : tie.Need-loop-again Inv-loop μ-loop
 loop-again c =
-    let start = c .before .before .before .before .before .before .before in
+    let start = c .before .before .before .before .before .before in
     let loop = c .before .before .before .before .loop in
-    let places : length (start .args .self .places) ≡ 64 = long start in
-    let within : c .before .before .before .before .before .least .result ≤ length (start .args .self .places) = omega (arith, c .before .before .before .before .before .least .ensures) in (
+    let places : length (start .args .t1 .places) ≡ 64 = long start in
+    let within : c .before .before .before .before .before .least .result ≤ length (start .args .t1 .places) = omega (arith, c .before .before .before .before .before .least .ensures) in (
       omega arith,
       omega (arith, c .one-if .ensures, one-at-most (c .before .is-due .result)),
       rw (c .one-if .ensures, c .before .is-due .ensures)
-          (sym (walk-turn (counting (start .args .now)) (loop .found) (start .args .self .places) _ (loop .at) _ (c .before .before .before .loop-test .taken) within) ∙ loop .inv .2),
+          (sym (walk-turn (counting (start .args .now)) (loop .found) (start .args .t1 .places) _ (loop .at) _ (c .before .before .before .loop-test .taken) within) ∙ loop .inv .2),
     )
 
 returns : tie.Need-returns Inv-loop μ-loop
 unfolding dueCountOf dueOf standingOf
 returns c =
-    let start = c .before .before .before .before in
+    let start = c .before .before .before in
     let count = c .before .before .least .result in
-    walk-end (counting (start .args .now)) (c .before .loop .found) _ (start .args .self .places) count (c .before .loop .at) (c .loop-test .left) (c .before .loop .inv .2)
-    ∙ count-keep (dueAt (start .args .now)) 0 (take count (start .args .self .places))
+    walk-end (counting (start .args .now)) (c .before .loop .found) _ (start .args .t1 .places) count (c .before .loop .at) (c .loop-test .left) (c .before .loop .inv .2)
+    ∙ count-keep (dueAt (start .args .now)) 0 (take count (start .args .t1 .places))
     ∙ zero-add _
-    ∙ ap (λ (n : ℕ). length (keepOf (dueAt (start .args .now)) (take n (start .args .self .places)))) (c .before .before .least .ensures)
+    ∙ ap (λ (n : ℕ). length (keepOf (dueAt (start .args .now)) (take n (start .args .t1 .places)))) (c .before .before .least .ensures)
 
 pub due-count-spec : {M : Type 1} → statement M
 due-count-spec =
