@@ -44,7 +44,15 @@ pub fn all() -> Vec<Subject> {
             subjects.push(subject(&format!("{name} ticks, {what}"), ticking(orders, ticks)));
         }
     }
+    for records in [32, 128, 512] {
+        subjects.push(subject("mixed calls, the first of them", beginning(records)));
+    }
     subjects
+}
+
+/// The log with calls of all kinds, cut off after so many records: what a record costs should not depend on how many there are.
+fn beginning(records: usize) -> Option<Vec<Record>> {
+    mixed().map(|all| all.into_iter().take(records).collect())
 }
 
 /// Whether the log is as long as a log may be and is obeyed.

@@ -54,8 +54,18 @@ fn the_ticks_carry_out_the_hourly_orders() {
         let listing = String::from_utf8_lossy(&listing(&subject.log)).into_owned();
         listing.lines().last().and_then(|line| line.rsplit(' ').next()?.parse().ok())
     };
-    let numbers: Vec<Option<u64>> = all()[4..].iter().map(carried_out).collect();
+    let numbers: Vec<Option<u64>> = all()[4..10].iter().map(carried_out).collect();
     assert_eq!(numbers, [0, 24, 24 * 64, 0, 1_193, 1_193 * 64].map(Some));
+}
+
+#[test]
+fn the_last_logs_are_beginnings_of_the_mixed_one() {
+    let subjects = all();
+    let whole = read(&subjects[1].log).unwrap_or_default();
+    for (subject, records) in subjects[10..].iter().zip([32, 128, 512]) {
+        assert_eq!(read(&subject.log).as_deref(), Ok(&whole[..records]));
+    }
+    assert_eq!(subjects.len(), 13);
 }
 
 #[test]
