@@ -1,5 +1,5 @@
 -- REQSEMA and RELSEMA leave a table that stands as tables stand along a run. Assumes nothing.
-use mathlib.Core.Path.{_≡_, _∙_, refl, sym, subst}
+use mathlib.Core.Path.{_≡_, _∙_, ap, refl, sym, subst}
 use mathlib.Core.Bool.{true, false, _&&_}
 use mathlib.Core.List.{List, [], _∷_, _++_, map, map-append}
 use Prim.Native.Nat.{ℕ, zero, suc, _+_, _<_, min}
@@ -22,7 +22,7 @@ use Rattle.process.specs.declared.states.Cause.the-variants.{WaitForSemaphore, 
 use Rattle.process.specs.declared.states.Next.{Next}
 use Rattle.process.specs.declared.states.Next.the-variants.{To}
 use Rattle.process.specs.declared.states.State.{State}
-use Rattle.process.specs.declared.states.State.the-variants.{Inactive, Ready, WaitingForMessage, WaitingForEvent, WaitingForSemaphore}
+use Rattle.process.specs.declared.states.State.the-variants.{Ready, WaitingForMessage, WaitingForSemaphore}
 use Rattle.process.specs.Process.{processOf, movedTo, movedOf}
 use Rattle.process.specs.States.{isOf, nextOf}
 use Rattle.semaphores.specs.declared.queues.Queue.{Queue}
@@ -46,6 +46,7 @@ use Rattle.table.proofs.Configured.{configured-level}
 use Rattle.table.proofs.Parts.{parts-sound}
 use Rattle.table.proofs.Queued.{waiting-configured}
 use Rattle.calls.specs.Levels.{processAt, withProcesses, withSemaphores}
+use Rattle.calls.proofs.Changing.{state-known}
 use Rattle.calls.proofs.Keeping.{Steady, Keeps, keeps-obeyed, passed-caller, level-at}
 use Rattle.holding.specs.Holding.{requestedBy, requestedOf, requestOf, handedTo, releasedBy, releasedOf, releasedAllOf, releaseOf}
 
@@ -207,28 +208,16 @@ module _ (c : Config) where
 -- a handover takes who waits for a semaphore to READY
 handed-next : (s : State) → isOf s WaitingForSemaphore ≡ true → nextOf s Handover ≡ To Ready
 unfolding nextOf
-handed-next Inactive waits = absurd (never-both waits refl)
-handed-next Ready waits = absurd (never-both waits refl)
-handed-next WaitingForMessage waits = absurd (never-both waits refl)
-handed-next WaitingForEvent waits = absurd (never-both waits refl)
-handed-next WaitingForSemaphore waits = refl
+handed-next s waits = ap (λ (state : State). nextOf state Handover) (state-known s WaitingForSemaphore waits)
 
 -- a request that has to wait takes who is READY to WR
 waits-next : (s : State) → isOf s Ready ≡ true → nextOf s WaitForSemaphore ≡ To WaitingForSemaphore
 unfolding nextOf
-waits-next Inactive ready = absurd (never-both ready refl)
-waits-next Ready ready = refl
-waits-next WaitingForMessage ready = absurd (never-both ready refl)
-waits-next WaitingForEvent ready = absurd (never-both ready refl)
-waits-next WaitingForSemaphore ready = absurd (never-both ready refl)
+waits-next s ready = ap (λ (state : State). nextOf state WaitForSemaphore) (state-known s Ready ready)
 
 -- who is READY waits for no semaphore
 ready-waits : (s : State) → isOf s Ready ≡ true → isOf s WaitingForSemaphore ≡ false
-ready-waits Inactive ready = refl
-ready-waits Ready ready = refl
-ready-waits WaitingForMessage ready = refl
-ready-waits WaitingForEvent ready = refl
-ready-waits WaitingForSemaphore ready = absurd (never-both ready refl)
+ready-waits s ready = ap (λ (state : State). isOf state WaitingForSemaphore) (state-known s Ready ready)
 
 module _ (c : Config) (q r : Queue) (level : ℕ) (p : Process) (configured : configuredOf c level ≡ true) (sound : levelSound c q level p ≡ true) where
   -- who leaves the queue with its semaphore handed to it is sound

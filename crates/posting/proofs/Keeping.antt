@@ -1,12 +1,12 @@
 -- Messages keep sound levels sound: who waits for one is handed it at once, and a buffer takes in only what it has a place for. Assumes nothing.
-use mathlib.Core.Path.{_≡_, _∙_, refl, sym, subst}
+use mathlib.Core.Path.{_≡_, _∙_, ap, refl, sym, subst}
 use mathlib.Core.Bool.{true, false}
 use mathlib.Core.List.{List, [], _∷_}
 use Prim.Native.Nat.{ℕ, _+_, _<_, min}
 use native.Mathlib.Omega.{arith}
 use lib.ListN.{length}
 use borrow.Author.Tests.{ltb-true, le-leb}
-use Rattle.common.proofs.Cases.{by-test, by-pick, never-both}
+use Rattle.common.proofs.Cases.{by-test, by-pick}
 use Rattle.process.specs.declared.Condition.{Condition}
 use Rattle.process.specs.declared.Condition.the-variants.{Always, Waiting}
 use Rattle.process.specs.declared.Delivery.{Delivery}
@@ -15,7 +15,7 @@ use Rattle.process.specs.declared.Process.{Process}
 use Rattle.process.specs.declared.buffers.Message.{Message}
 use Rattle.process.specs.declared.marking.Marks.{Marks}
 use Rattle.process.specs.declared.states.State.{State}
-use Rattle.process.specs.declared.states.State.the-variants.{Inactive, Ready, WaitingForMessage, WaitingForEvent, WaitingForSemaphore}
+use Rattle.process.specs.declared.states.State.the-variants.{Ready, WaitingForMessage, WaitingForSemaphore}
 use Rattle.process.specs.Marks.{marksOf}
 use Rattle.process.specs.Messages.{roomOf, behindOf, putOf}
 use Rattle.process.specs.Process.{processOf, overflowMarkedOf, timeMarkedOf, deliverOf, handedOf, storedOf, keptOf}
@@ -23,6 +23,7 @@ use Rattle.process.specs.States.{isOf}
 use Rattle.table.specs.declared.Table.{Table}
 use Rattle.table.specs.Sound.{levelsSound}
 use Rattle.calls.specs.Levels.{processAt}
+use Rattle.calls.proofs.Changing.{state-known}
 use Rattle.calls.proofs.Keeping.{Tame, tame-set}
 use Rattle.posting.specs.declared.Origin.{Origin}
 use Rattle.posting.specs.declared.Origin.the-variants.{Sent, Timed}
@@ -31,11 +32,7 @@ use Rattle.posting.proofs.Waking.{waits, deliver-waits, deliver-keeps, 
 
 -- who waits for a message does not wait for a semaphore
 message-not-semaphore : (s : State) → isOf s WaitingForMessage ≡ true → isOf s WaitingForSemaphore ≡ false
-message-not-semaphore Inactive waits = refl
-message-not-semaphore Ready waits = refl
-message-not-semaphore WaitingForMessage waits = refl
-message-not-semaphore WaitingForEvent waits = refl
-message-not-semaphore WaitingForSemaphore waits = absurd (never-both waits refl)
+message-not-semaphore s waits = ap (λ (state : State). isOf state WaitingForSemaphore) (state-known s WaitingForMessage waits)
 
 module _ (places : ℕ) (p : Process) where
   -- a process that stays as it is

@@ -38,7 +38,7 @@ use Rattle.timers.specs.Timers.{shutdownOf, startSchedulerOf, readTimeOf}
 use Rattle.interrupts.specs.Interrupts.{enableOf, disableOf, cameOf, openOf, awaitingOf, awaitingBy, awaitInterruptOf, resetInterruptOf, openedOf, openedBy, latchedOf, eventOf}
 use Rattle.holding.specs.Holding.{requestedBy, requestedOf, requestOf, releasedBy, releasedOf, releasedAllOf, releaseOf}
 use Rattle.rtms.specs.Calls.{Call, START, SETPRIORITY, SEND, RECEIVE, AWAITMESSAGE, CLEARMESSAGE, SCHEDULE, CANCELSCHEDULE, SHUTDOWN, STARTSCHEDULER, READTIME, ENABLE, DISABLE, AWAITINTERRUPT, RESETINT, EVENT, REQSEMA, RELSEMA, TICK, TICKS, effectOf}
-use Rattle.runs.specs.Schedules.{orderSteps, timedOf, ticksBy}
+use Rattle.runs.specs.Schedules.{deedOf, orderSteps, timedOf, ticksBy}
 use Rattle.runs.proofs.Answering.{Unlike, Avoids, avoids-none, avoids-more, avoids-caller, by-obeyed}
 
 -- an effect is not answered 35, and leaves the clock and the orders that stand
@@ -124,7 +124,7 @@ calmly holds none never = calm (record { mildly = holds; no-steps = none; no-tic
 
 -- which one a call is
 pub kind-of : (call : Call) (t : Table) → Kind t call
-unfolding orderSteps ticksBy startOf setPriorityOf sendOf sentOf receiveOf awaitMessageOf clearMessageOf shutdownOf startSchedulerOf readTimeOf enableOf disableOf awaitInterruptOf resetInterruptOf eventOf latchedOf requestOf requestedOf releaseOf releasedOf
+unfolding deedOf orderSteps ticksBy startOf setPriorityOf sendOf sentOf receiveOf awaitMessageOf clearMessageOf shutdownOf startSchedulerOf readTimeOf enableOf disableOf awaitInterruptOf resetInterruptOf eventOf latchedOf requestOf requestedOf releaseOf releasedOf
 kind-of (START level priority) t =
     calmly (mild-obeyed t _ _ (avoids-more 35 _ _ _ (avoids-more 35 _ _ _ (avoids-more 35 _ _ _ (avoids-none 35) refl) refl) refl) (mild t _ refl refl)) refl refl
 kind-of (SETPRIORITY caller priority) t = calmly (mild-obeyed t _ _ (avoids-more 35 _ _ _ (own t caller) refl) (mild t _ refl refl)) refl refl

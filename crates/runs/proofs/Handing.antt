@@ -38,10 +38,6 @@ module _ (level : ℕ) where
   first-none [] none = refl
   first-none (x ∷ l) none = by-test (eqb x level) (λ e. absurd (never-both refl (rw e at none))) (λ e. rw e)
 
-  -- the first of a list stands in it
-  pub first-stands : (l : List ℕ) → standsIn level (take 1 l) ≡ true → standsIn level l ≡ true
-  first-stands l stands = by-test (standsIn level l) (λ e. e) (λ e. absurd (never-both stands (first-none l e)))
-
   -- one of the twelve is the first where it is what stands there
   pub first-is : (l : List ℕ) → level < 12 → eqb (getD l 0 free) level ≡ standsIn level (take 1 l)
   unfolding standsIn

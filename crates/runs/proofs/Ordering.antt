@@ -34,7 +34,7 @@ use Rattle.ticking.specs.Ticking.{carryingOut, tickOf, ticksOf}
 use Rattle.ticking.proofs.Quieting.{tick-running}
 use Rattle.rtms.specs.Calls.{Call, SCHEDULE, CANCELSCHEDULE, TICKS, effectOf, doneBy}
 use Rattle.runs.specs.Runs.{leaves}
-use Rattle.runs.specs.Schedules.{orderBy, Running, isFor, Lets, orderSteps, timedOf, ticksBy}
+use Rattle.runs.specs.Schedules.{deedOf, orderBy, Running, isFor, Lets, orderSteps, timedOf, ticksBy}
 use Rattle.runs.proofs.Answering.{Unlike, Avoids, avoids-more, avoids-caller, by-obeyed}
 use Rattle.runs.proofs.Calm.{Mild, Kind, calm, schedule, cancel, tick, many, kind-of}
 use Rattle.runs.proofs.Steady.{steady-done}
@@ -129,7 +129,7 @@ ticks-timed (suc n) t runs = ticks-timed n (tickOf t .table) (tick-runs t runs) 
 
 -- none at all too, whether it runs or not
 let-ticks-timed : (x : Order) (n : ℕ) (t : Table) → Lets x (TICKS n) t → timedOf (ticksOf n t .table) ≡ stepsAfter (replicate n ticks) (timedOf t)
-unfolding Lets ticksOf
+unfolding deedOf Lets ticksOf
 let-ticks-timed x zero t lets = refl
 let-ticks-timed x (suc n) t lets = ticks-timed (suc n) t lets
 
@@ -150,7 +150,7 @@ does-answered step call t steady does =
 -- the clock and the orders after a call of a steady table, by its kind
 kind-timed : (x : Order) (call : Call) (t : Table) → Steady t → Lets x call t → Kind t call
     → timedOf (effectOf call t .table) ≡ stepsAfter (orderSteps call t) (timedOf t)
-unfolding Mild Lets orderSteps
+unfolding deedOf Mild Lets orderSteps
 kind-timed x call t steady lets (calm calmly) = calmly .mildly .1 ∙ sym (ap (λ steps. stepsAfter steps (timedOf t)) (calmly .no-steps))
 kind-timed x call t steady lets (schedule caller new) =
     does-answered (accepts (orderBy t caller new)) (SCHEDULE caller new) t steady (schedule-does t caller new steady)
@@ -209,7 +209,7 @@ spared-ticks x (suc n) = spared-ticks x n
 
 -- a step that leaves an order to the clock cancels it not
 pub step-spares : (x : Order) (call : Call) (t : Table) → Lets x call t → Kind t call → Spared x (orderSteps call t)
-unfolding Lets orderSteps
+unfolding deedOf Lets orderSteps
 step-spares x call t lets (calm calmly) = subst (Spared x) (sym (calmly .no-steps)) tt
 step-spares x call t lets (schedule caller new) = spared-accept x (orderBy t caller new) (answered (SCHEDULE caller new) t)
 step-spares x call t lets (cancel caller sender receiver) =
@@ -231,7 +231,7 @@ many-ticks (suc n) = ap suc (many-ticks n)
 
 -- a step is as many ticks as there are among its steps of the order table
 pub step-ticks : (call : Call) (t : Table) → Kind t call → ticksAmong (orderSteps call t) ≡ ticksBy call
-unfolding orderSteps ticksBy
+unfolding deedOf orderSteps ticksBy
 step-ticks call t (calm calmly) = ap ticksAmong (calmly .no-steps) ∙ sym (calmly .no-ticks)
 step-ticks call t (schedule caller new) = one-no-tick (answered (SCHEDULE caller new) t) (accepts (orderBy t caller new)) refl
 step-ticks call t (cancel caller sender receiver) = one-no-tick (answered (CANCELSCHEDULE caller sender receiver) t) (cancels (senderOf sender) receiver) refl

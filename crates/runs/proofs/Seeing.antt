@@ -4,9 +4,9 @@ use mathlib.Core.Bool.{Bool, true, false, not, _&&_, _||_, and-false, or-true}
 use mathlib.Core.List.{List, [], _∷_}
 use Prim.Native.Nat.{ℕ, _<_}
 use native.Mathlib.Omega.{arith}
-use lib.Dec.{eqb, ltb}
+use lib.Dec.{eqb}
 use lib.ListN.{take}
-use borrow.Author.Tests.{eqb-true, eqb-false, eq-eqb, ne-eqb, ltb-true}
+use borrow.Author.Tests.{eqb-true, eqb-false, eq-eqb, ne-eqb}
 use Rattle.common.specs.Choice.{pick}
 use Rattle.common.specs.Stands.{standsIn}
 use Rattle.common.proofs.Cases.{by-test, both}
@@ -16,11 +16,12 @@ use Rattle.semaphores.specs.Semaphores.{usableOf, holderOf, waitersOf, requeste
 use Rattle.semaphores.specs.Turns.{Step, releases as releaseStep, releasesAll, mayRequest, stepOf, afterOf, releasesNumber, releasesOf, Orderly}
 use Rattle.semaphores.proofs.Effects.{Turn, turn-same, release-not-held}
 use Rattle.semaphores.proofs.Turns.{release-all}
-use Rattle.semaphores.proofs.Waking.{release-wakes, release-wakes-none}
+use Rattle.semaphores.proofs.Orderly.{requester-level}
+use Rattle.semaphores.proofs.Waking.{stands-first, release-wakes, release-wakes-none}
 use Rattle.table.specs.Words.{minusOne}
 use Rattle.runs.specs.Sight.{Act, requests, releases, neither, asksFor, givesBack, Sight, releasedBy}
 use Rattle.runs.proofs.Acting.{Deed, outside, refused, asks, gives, gives-all}
-use Rattle.runs.proofs.Handing.{first-none, first-stands, waits-apart, all-wakes, one-turn}
+use Rattle.runs.proofs.Handing.{first-none, waits-apart, all-wakes, one-turn}
 
 -- ---- a step that requests nothing
 
@@ -47,11 +48,6 @@ pub data Way (number : ℕ) (act : Act) (answer : ℕ) (handed : List ℕ) (s th
   turned : Turned number act answer handed s then → Way number act answer handed s then
   requested : (caller asked : ℕ) → mayRequest s caller ≡ true → act ≡ requests caller asked → answer ≡ requestedNumber (requestOf s caller asked .requested)
       → handed ≡ [] → then ≡ requestOf s caller asked .semaphores → Way number act answer handed s then
-
--- a level that may request is one of the twelve
-pub may-level : (s : Semaphores) (caller : ℕ) → mayRequest s caller ≡ true → caller < 12
-unfolding mayRequest
-may-level s caller may = ltb-true _ _ (both (ltb caller 12) _ may .0)
 
 -- a call that is not answered 0 is not seen to release
 refused-seen : (number : ℕ) (act : Act) (answer : ℕ) (sight : Sight) → eqb answer 0 ≡ false → releasedBy number act answer sight ≡ false
@@ -106,7 +102,7 @@ module _ (number : ℕ) (s : Semaphores) (orderly : Orderly s) (caller : ℕ) (l
       (λ e. let here : given ≡ number = eqb-true _ _ e in
       rw (e, here)
       (by-test (standsIn level (take 1 (waitersOf s number)))
-      (λ first. rw (first-stands level (waitersOf s number) first, first))
+      (λ first. rw (stands-first level (waitersOf s number) first, first))
       (λ other. rw other (and-false (standsIn level (waitersOf s number))))))
       (λ e. rw e
       (by-test (standsIn level (waitersOf s number))
@@ -212,7 +208,7 @@ module _ (number : ℕ) (usable : usableOf number ≡ true) (s : Semaphores) (or
   gives-turned {act} {answer} {handed} {then} caller given may act-is single answer-is handed-is then-is =
       by-test (holdsOf s caller given)
       (λ holds. rw (act-is, answer-is ∙ held-number s caller given holds, handed-is ∙ release-wakes s caller given holds, then-is)
-      (given-turned number s orderly caller (may-level s caller may) given single holds))
+      (given-turned number s orderly caller (requester-level s caller may) given single holds))
       (λ fails. let answer-15 : answer ≡ 15 = answer-is ∙ not-held-number s caller given fails in
       quiet (handed-is ∙ release-wakes-none s caller given fails) (then-is ∙ release-not-held s caller given fails)
       (λ level. rw act-is (refl, refl))
@@ -231,4 +227,4 @@ module _ (number : ℕ) (usable : usableOf number ≡ true) (s : Semaphores) (or
   way-of (asks caller asked may act-is answer-is handed-is then-is) = requested caller asked may act-is answer-is handed-is then-is
   way-of (gives caller given may act-is single answer-is handed-is then-is) = turned (gives-turned caller given may act-is single answer-is handed-is then-is)
   way-of (gives-all caller may act-is answer-is handed-is then-is) =
-      turned (rw (act-is, answer-is, handed-is, then-is) (all-turned number usable s orderly caller (may-level s caller may)))
+      turned (rw (act-is, answer-is, handed-is, then-is) (all-turned number usable s orderly caller (requester-level s caller may)))

@@ -14,7 +14,7 @@ use Rattle.semaphores.specs.Semaphores.{usableOf, free, freshOf as freshSemapho
 use Rattle.semaphores.specs.Turns.{Orderly}
 use Rattle.semaphores.proofs.Effects.{Turn}
 use Rattle.semaphores.proofs.Numbers.{usable-below}
-use Rattle.semaphores.proofs.Orderly.{fresh-orderly, waiters-once}
+use Rattle.semaphores.proofs.Orderly.{fresh-orderly, requester-level, waiters-once}
 use Rattle.table.specs.declared.Table.{Table}
 use Rattle.table.specs.Table.{freshOf}
 use Rattle.calls.proofs.Keeping.{Steady}
@@ -24,7 +24,7 @@ use Rattle.runs.specs.Sight.{Act, asksFor, givesBack, Sight, unseen, sig
 use Rattle.runs.proofs.Acting.{step-deed}
 use Rattle.runs.proofs.Asking.{request-holds, request-waits}
 use Rattle.runs.proofs.Handing.{first-is, rest-is}
-use Rattle.runs.proofs.Seeing.{Way, turned, requested, may-level, way-of}
+use Rattle.runs.proofs.Seeing.{Way, turned, requested, way-of}
 use Rattle.runs.proofs.Steady.{fresh-steady, step-steady}
 
 -- ---- a number that is released, or not
@@ -84,7 +84,7 @@ module _ (number : ℕ) (s : Semaphores) (orderly : Orderly s) {act : Act} {answ
       → (holdsAfter number level act answer handed false false ≡ false) × (waitsAfter number level act answer handed false ≡ false)
   way-else (turned t) level high = (rw (t .no-request level .0), rw (t .no-request level .1))
   way-else (requested caller asked may act-is answer-is handed-is then-is) level high =
-      let less : caller < 12 = may-level s caller may in
+      let less : caller < 12 = requester-level s caller may in
       let other : eqb caller level ≡ false = ne-eqb caller level (λ same. omega arith) in
       (rw (act-is, other), rw (act-is, other))
 

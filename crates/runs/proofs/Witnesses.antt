@@ -41,7 +41,7 @@ use Rattle.ticking.specs.Ticking.{carriedOut, carryingOut, stopping, passing, t
 use Rattle.holding.specs.Holding.{requestedOf, requestOf, releasedOf, releaseOf}
 use Rattle.rtms.specs.Calls.{Call, START, SCHEDULE, CANCELSCHEDULE, SHUTDOWN, STARTSCHEDULER, REQSEMA, RELSEMA, TICK, TICKS, guardedOf, doneBy}
 use Rattle.runs.specs.Runs.{leaves, afterOf, runOf, seenAs, seenOf}
-use Rattle.runs.specs.Schedules.{orderBy, Accepted, acceptedAt, firstPlace, Running, isFor, Lets, Undisturbed, orderSteps, timedOf, followedOn, ticksBy, ticksIn}
+use Rattle.runs.specs.Schedules.{deedOf, orderBy, Accepted, acceptedAt, firstPlace, Running, isFor, Lets, Undisturbed, orderSteps, timedOf, followedOn, ticksBy, ticksIn}
 use Rattle.runs.specs.Sight.{actOf, handedLevels, Sight, sightAfter, sightOf, isRelease, releasesSeen}
 use Rattle.runs.specs.Turns.{BeginsToWait, askedAt, sightThen}
 
@@ -148,7 +148,7 @@ pub record ShowsOrders : Type 0 where
 
 -- it does
 pub shows-orders : ShowsOrders
-unfolding everyBelow keepOf packedOf standsIn bitOf wordOf hasOf setOf noInputs exceptOf inputRun risingOf membersOf countOf nextOf emptyBuffer movedOf listOf queued emptyQueue usableOf freshSemaphores standingOf ordersOf noneOf configuredOf inputsOf goodOf timesOf levelSound levelsSound orderSound ordersSound holderSound holdersSound waiterSound queueSound onCard soundOf freshOf processAt alsoOf obeyed startOf guardedOf afterOf forwardOf untilOf madeOf intervalOf delayOf momentOf ordersPush acceptOf isFrom matchesOf howManyOf withoutOf removedOf cancelOf receiverOf senderOf putOf storedOf handedOf deliverOf tellOf markedBy oneOf allOf dueOf onwardOf leftsOf advanceOf ordered scheduleOf cancelledOf cancelScheduleOf startSchedulerOf carriedOut carryingOut tickAt tickOf ticksOf Undisturbed Lets isFor ticksIn ticksBy followedOn orderSteps
+unfolding deedOf everyBelow keepOf packedOf standsIn bitOf wordOf hasOf setOf noInputs exceptOf inputRun risingOf membersOf countOf nextOf emptyBuffer movedOf listOf queued emptyQueue usableOf freshSemaphores standingOf ordersOf noneOf configuredOf inputsOf goodOf timesOf levelSound levelsSound orderSound ordersSound holderSound holdersSound waiterSound queueSound onCard soundOf freshOf processAt alsoOf obeyed startOf guardedOf afterOf forwardOf untilOf madeOf intervalOf delayOf momentOf ordersPush acceptOf isFrom matchesOf howManyOf withoutOf removedOf cancelOf receiverOf senderOf putOf storedOf handedOf deliverOf tellOf markedBy oneOf allOf dueOf onwardOf leftsOf advanceOf ordered scheduleOf cancelledOf cancelScheduleOf startSchedulerOf carriedOut carryingOut tickAt tickOf ticksOf Undisturbed Lets isFor ticksIn ticksBy followedOn orderSteps
 shows-orders = record {
   running = record { running = refl; no-switch = refl };
   one = refl;

@@ -59,29 +59,46 @@ pub record Running (t : Table) : Type 0 where
 unfoldable pub isFor : Order → ℕ → ℕ → Bool
 isFor x sender receiver = eqb receiver (x .receiver) && (eqb sender minusOne || eqb sender (x .sender))
 
+-- what a call has to do with the clock and the orders: so many ticks; a SCHEDULE, with its caller and the new order; a CANCELSCHEDULE, with its caller,
+-- the sender and the receiver
+pub data Deed : Type 0 where
+  passes : ℕ → Deed
+  orders : ℕ → NewOrder → Deed
+  withdraws : ℕ → ℕ → ℕ → Deed
+  neither : Deed
+
+unfoldable pub deedOf : Call → Deed
+deedOf TICK = passes 1
+deedOf (TICKS n) = passes n
+deedOf (SCHEDULE caller new) = orders caller new
+deedOf (CANCELSCHEDULE caller sender receiver) = withdraws caller sender receiver
+deedOf (START level priority) = neither
+deedOf (SETPRIORITY caller priority) = neither
+deedOf (SEND caller receiver condition m) = neither
+deedOf (RECEIVE caller) = neither
+deedOf (AWAITMESSAGE caller) = neither
+deedOf (CLEARMESSAGE caller receiver) = neither
+deedOf (SHUTDOWN caller) = neither
+deedOf STARTSCHEDULER = neither
+deedOf (READTIME caller) = neither
+deedOf (ENABLE caller input) = neither
+deedOf (DISABLE caller input) = neither
+deedOf (AWAITINTERRUPT caller) = neither
+deedOf (RESETINT caller input) = neither
+deedOf (EVENT input) = neither
+deedOf (REQSEMA caller asked) = neither
+deedOf (RELSEMA caller given) = neither
+
 -- a step leaves the order to the clock: ticks find the scheduler running, and a CANCELSCHEDULE that is answered 0 is not for the order
+abbrev pub letsBy : Order → Deed → Table → Type 0
+letsBy x (passes zero) t = Unit
+letsBy x (passes (suc n)) t = Running t
+letsBy x (orders caller new) t = Unit
+letsBy x (withdraws caller sender receiver) t = numberOf (doneBy (CANCELSCHEDULE caller sender receiver) t .answer) ≡ 0 → isFor x sender receiver ≡ false
+letsBy x neither t = Unit
+
 unfoldable pub Lets : Order → Call → Table → Type 0
-Lets x TICK t = Running t
-Lets x (TICKS zero) t = Unit
-Lets x (TICKS (suc n)) t = Running t
-Lets x (CANCELSCHEDULE caller sender receiver) t = numberOf (doneBy (CANCELSCHEDULE caller sender receiver) t .answer) ≡ 0 → isFor x sender receiver ≡ false
-Lets x (START level priority) t = Unit
-Lets x (SETPRIORITY caller priority) t = Unit
-Lets x (SEND caller receiver condition m) t = Unit
-Lets x (RECEIVE caller) t = Unit
-Lets x (AWAITMESSAGE caller) t = Unit
-Lets x (CLEARMESSAGE caller receiver) t = Unit
-Lets x (SCHEDULE caller new) t = Unit
-Lets x (SHUTDOWN caller) t = Unit
-Lets x STARTSCHEDULER t = Unit
-Lets x (READTIME caller) t = Unit
-Lets x (ENABLE caller input) t = Unit
-Lets x (DISABLE caller input) t = Unit
-Lets x (AWAITINTERRUPT caller) t = Unit
-Lets x (RESETINT caller input) t = Unit
-Lets x (EVENT input) t = Unit
-Lets x (REQSEMA caller asked) t = Unit
-Lets x (RELSEMA caller given) t = Unit
+Lets x call t = letsBy x (deedOf call) t
 
 -- and so do all steps of a sequence
 unfoldable pub Undisturbed : Order → List Call → Table → Type 0
@@ -91,29 +108,15 @@ Undisturbed x (call ∷ later) t = Lets x call t × Undisturbed x later (leaves 
 -- ---- where the order is, and how many ticks have been
 
 -- what a step does to the orders that stand: it ticks, enters an order that is accepted, or takes those that a cancel is for
-unfoldable pub orderSteps : Call → Table → List Step
-orderSteps TICK t = ticks ∷ []
-orderSteps (TICKS n) t = replicate n ticks
-orderSteps (SCHEDULE caller new) t =
-    pick (eqb (numberOf (doneBy (SCHEDULE caller new) t .answer)) 0) (accepts (orderBy t caller new) ∷ []) []
-orderSteps (CANCELSCHEDULE caller sender receiver) t =
+abbrev pub stepsBy : Deed → Table → List Step
+stepsBy (passes n) t = replicate n ticks
+stepsBy (orders caller new) t = pick (eqb (numberOf (doneBy (SCHEDULE caller new) t .answer)) 0) (accepts (orderBy t caller new) ∷ []) []
+stepsBy (withdraws caller sender receiver) t =
     pick (eqb (numberOf (doneBy (CANCELSCHEDULE caller sender receiver) t .answer)) 0) (cancels (senderOf sender) receiver ∷ []) []
-orderSteps (START level priority) t = []
-orderSteps (SETPRIORITY caller priority) t = []
-orderSteps (SEND caller receiver condition m) t = []
-orderSteps (RECEIVE caller) t = []
-orderSteps (AWAITMESSAGE caller) t = []
-orderSteps (CLEARMESSAGE caller receiver) t = []
-orderSteps (SHUTDOWN caller) t = []
-orderSteps STARTSCHEDULER t = []
-orderSteps (READTIME caller) t = []
-orderSteps (ENABLE caller input) t = []
-orderSteps (DISABLE caller input) t = []
-orderSteps (AWAITINTERRUPT caller) t = []
-orderSteps (RESETINT caller input) t = []
-orderSteps (EVENT input) t = []
-orderSteps (REQSEMA caller asked) t = []
-orderSteps (RELSEMA caller given) t = []
+stepsBy neither t = []
+
+unfoldable pub orderSteps : Call → Table → List Step
+orderSteps call t = stepsBy (deedOf call) t
 
 -- the clock and the orders that stand
 abbrev pub timedOf : Table → Timed
@@ -125,27 +128,14 @@ followedOn [] t p = p
 followedOn (call ∷ later) t p = followedOn later (leaves call t) (followed (orderSteps call t) (timedOf t) p)
 
 -- how many ticks a step is, and a sequence of steps
+abbrev pub passedBy : Deed → ℕ
+passedBy (passes n) = n
+passedBy (orders caller new) = 0
+passedBy (withdraws caller sender receiver) = 0
+passedBy neither = 0
+
 unfoldable pub ticksBy : Call → ℕ
-ticksBy TICK = 1
-ticksBy (TICKS n) = n
-ticksBy (SCHEDULE caller new) = 0
-ticksBy (CANCELSCHEDULE caller sender receiver) = 0
-ticksBy (START level priority) = 0
-ticksBy (SETPRIORITY caller priority) = 0
-ticksBy (SEND caller receiver condition m) = 0
-ticksBy (RECEIVE caller) = 0
-ticksBy (AWAITMESSAGE caller) = 0
-ticksBy (CLEARMESSAGE caller receiver) = 0
-ticksBy (SHUTDOWN caller) = 0
-ticksBy STARTSCHEDULER = 0
-ticksBy (READTIME caller) = 0
-ticksBy (ENABLE caller input) = 0
-ticksBy (DISABLE caller input) = 0
-ticksBy (AWAITINTERRUPT caller) = 0
-ticksBy (RESETINT caller input) = 0
-ticksBy (EVENT input) = 0
-ticksBy (REQSEMA caller asked) = 0
-ticksBy (RELSEMA caller given) = 0
+ticksBy call = passedBy (deedOf call)
 
 unfoldable pub ticksIn : List Call → ℕ
 ticksIn [] = 0

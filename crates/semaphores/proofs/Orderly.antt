@@ -100,13 +100,13 @@ release-orderly s level number orderly =
 abbrev pub joined : Semaphores → ℕ → ℕ → Semaphores
 joined s level number = semaphoresOf (s .holders) (pushOf (s .queue) (waiter level number))
 
-module _ (s : Semaphores) (level number : ℕ) (orderly : Orderly s) (lets : mayRequest s level ≡ true) where
-  -- the level is one of the twelve
-  requester-level : level < 12
-  unfolding mayRequest
-  requester-level = ltb-true _ _ (both (ltb level 12) _ lets .0)
+-- who may request is one of the twelve
+pub requester-level : (s : Semaphores) (level : ℕ) → mayRequest s level ≡ true → level < 12
+unfolding mayRequest
+requester-level s level lets = ltb-true _ _ (both (ltb level 12) _ lets .0)
 
-  -- and waits for nothing yet
+module _ (s : Semaphores) (level number : ℕ) (orderly : Orderly s) (lets : mayRequest s level ≡ true) where
+  -- it waits for nothing yet
   requester-free : standsIn level (waitingOf s) ≡ false
   unfolding mayRequest
   requester-free = not-true _ (both (ltb level 12) _ lets .1)
@@ -116,7 +116,7 @@ module _ (s : Semaphores) (level number : ℕ) (orderly : Orderly s) (lets : may
   unfolding Once
   room =
       let known : (w : ℕ) → standsIn w (level ∷ waitingOf s) ≡ true → w < 12 =
-      (λ w stands. stands-cases w level (waitingOf s) stands (λ e. rw (← e) requester-level) (orderly .known w)) in
+      (λ w stands. stands-cases w level (waitingOf s) stands (λ e. rw (← e) (requester-level s level lets)) (orderly .known w)) in
       let few : suc (length (waitingOf s)) ≤ 12 = once-below 12 (level ∷ waitingOf s) (requester-free, orderly .once) known in
       let many : length (waitingOf s) ≡ s .queue .count = unfold waitingOf in length-map (listOf (s .queue)) _ ∙ list-length (s .queue) (orderly .places) (orderly .count) in
       omega arith
@@ -157,7 +157,7 @@ module _ (s : Semaphores) (level number : ℕ) (orderly : Orderly s) (lets : may
     numbers = orderly .numbers;
     places = joined-places;
     count = joined-count;
-    known = λ w stands. stands-joined w (waitingOf s) (rw joined-waiting at stands) (orderly .known w) (λ e. rw (← e) requester-level);
+    known = λ w stands. stands-joined w (waitingOf s) (rw joined-waiting at stands) (orderly .known w) (λ e. rw (← e) (requester-level s level lets));
     once = rw joined-waiting (once-behind level (waitingOf s) (orderly .once) requester-free);
     held = λ other w stands.
         by-test (eqb number other)

@@ -88,7 +88,7 @@ abbrev levelsIn : List Waiter → List ℕ
 levelsIn l = map (λ w. w .level) l
 
 -- the first of a list stands in it
-stands-first : (level : ℕ) (levels : List ℕ) → standsIn level (take 1 levels) ≡ true → standsIn level levels ≡ true
+pub stands-first : (level : ℕ) (levels : List ℕ) → standsIn level (take 1 levels) ≡ true → standsIn level levels ≡ true
 unfolding standsIn
 stands-first level [] stands = stands
 stands-first level (x ∷ levels) stands = by-test (eqb x level) (λ e. rw e) (λ e. absurd (never-both (rw e at stands) refl))
