@@ -102,12 +102,19 @@ impl Process {
         }
     }
 
-    // SETPRIORITY's change: the priority, and nothing more in the record.
+    // SETPRIORITY's change to a record that is lent: its priority, and nothing more in it.
+    pub fn set_priority(&mut self, priority: u8)
+        ensures { λ _. ⌜ now (self .exit) ≡ withPriorityOf (now (self .entry)) priority ⌝ }
+    {
+        self.priority = priority;
+    }
+
+    // The same for who holds the record by value, so that no caller needs a walk.
     pub fn with_priority(self, priority: u8) -> Process
         ensures { λ r. ⌜ r ≡ withPriorityOf self priority ⌝ }
     {
         let mut changed = self;
-        changed.priority = priority;
+        changed.set_priority(priority);
         changed
     }
 
