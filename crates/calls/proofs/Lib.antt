@@ -1,3 +1,4 @@
 pub mod Obeying
 pub mod Keeping
 pub mod Changing
+pub mod Deciding

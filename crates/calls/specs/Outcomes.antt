@@ -1,8 +1,6 @@
 -- The code's results, each by the effect that it is.
 use Prim.Native.Nat.{ℕ}
-use Rattle.inputs.specs.declared.InputSet.{InputSet}
 use Rattle.inputs.specs.InputSet.{emptyOf}
-use Rattle.process.specs.declared.buffers.Message.{Message}
 use Rattle.process.specs.declared.marking.Told.{Told}
 use Rattle.process.specs.declared.marking.Told.the-variants.{Nothing, Overflow, Time}
 use Rattle.process.specs.Messages.{zeros}
@@ -12,7 +10,6 @@ use Rattle.table.specs.declared.wakes.Wakes.{Wakes}
 use Rattle.table.specs.declared.Shown.the-variants as Shown
 use Rattle.table.specs.declared.Outcome.{Outcome}
 use Rattle.table.specs.declared.Table.{Table}
-use Rattle.calls.specs.Effects.{carrying, message, inputs, outcomeOf}
 
 -- the number and the wakes, and nothing else
 unfoldable pub answeredOf : Table → Answer → Wakes → Outcome
@@ -23,12 +20,6 @@ abbrev pub toldAs : Told → Answer
 toldAs Nothing = Ok
 toldAs Overflow = BufferOverflow
 toldAs Time = TimeCondition
-
-abbrev pub carriesMessage : Table → Told → Message → Outcome
-carriesMessage t told m = outcomeOf (carrying (toldAs told) (message m) t)
-
-abbrev pub carriesInputs : Table → InputSet → Outcome
-carriesInputs t set = outcomeOf (carrying Ok (inputs set) t)
 
 -- a number and the wakes
 unfoldable pub carriesNumber : Table → ℕ → Wakes → Outcome

@@ -1,9 +1,11 @@
 // What all calls share: their checks in order, the process at a level, and how an answer is given.
 ghost use mathlib.Core.Path.{_≡_};
 ghost use lib.ListN.{set};
+ghost use Rattle.calls.specs.Decisions.{decided, toldOf};
+ghost use Rattle.calls.specs.Effects.{nothing};
 ghost use Rattle.calls.specs.Levels.{processAt};
 ghost use Rattle.calls.specs.Verdicts.{alsoOf, byCaller};
-ghost use Rattle.calls.specs.Outcomes.{answeredOf, carriesMessage, carriesInputs, carriesNumber, toldAs};
+ghost use Rattle.calls.specs.Outcomes.{answeredOf, carriesNumber, toldAs};
 use inputs::InputSet;
 use process::Process;
 use process::buffers::Message;
@@ -74,6 +76,50 @@ pub fn caller_checked(config: Config, process: Process, caller: u8) -> Verdict
         .check(ready, Answer::NotReady)
 }
 
+// What a call decides that changes the record of one process and nothing else: the answer, what it carries, and that record. Decided on small
+// parts, it is then put into a table in place, which is copied once in and once out.
+pub struct Decided {
+    pub answer: Answer,
+    pub shown: Shown,
+    pub message: Message,
+    pub inputs: InputSet,
+    pub process: Process,
+}
+
+impl Decided {
+    // An answer that carries nothing.
+    pub fn alone(answer: Answer, process: Process) -> Decided
+        ensures { λ r. ⌜ r ≡ decided answer nothing process ⌝ }
+    {
+        Decided {
+            answer,
+            shown: Shown::Nothing,
+            message: Message::ZEROS,
+            inputs: InputSet::empty(),
+            process,
+        }
+    }
+}
+
+// What was decided, beside a table in which the record stands.
+pub fn told(table: Table, decided: Decided) -> Outcome
+    ensures { λ r. ⌜ r ≡ toldOf table decided ⌝ }
+{
+    let answer = decided.answer;
+    let shown = decided.shown;
+    let message = decided.message;
+    let inputs = decided.inputs;
+    Outcome {
+        answer,
+        shown,
+        message,
+        inputs,
+        number: 0,
+        wakes: Wakes::none(),
+        table,
+    }
+}
+
 // The number and the wakes, and nothing else.
 pub fn answered(table: Table, answer: Answer, wakes: Wakes) -> Outcome
     ensures { λ r. ⌜ r ≡ answeredOf table answer wakes ⌝ }
@@ -91,37 +137,6 @@ pub fn told_as(told: Told) -> Answer
         Told::Nothing => Answer::Ok,
         Told::Overflow => Answer::BufferOverflow,
         Told::Time => Answer::TimeCondition,
-    }
-}
-
-// A message, handed over with what it tells.
-pub fn with_message(table: Table, told: Told, message: Message) -> Outcome
-    ensures { λ r. ⌜ r ≡ carriesMessage table told message ⌝ }
-{
-    let answer = told_as(told);
-    Outcome {
-        answer,
-        shown: Shown::Message,
-        message,
-        inputs: InputSet::empty(),
-        number: 0,
-        wakes: Wakes::none(),
-        table,
-    }
-}
-
-// A set of inputs.
-pub fn with_inputs(table: Table, inputs: InputSet) -> Outcome
-    ensures { λ r. ⌜ r ≡ carriesInputs table inputs ⌝ }
-{
-    Outcome {
-        answer: Answer::Ok,
-        shown: Shown::Inputs,
-        message: Message::ZEROS,
-        inputs,
-        number: 0,
-        wakes: Wakes::none(),
-        table,
     }
 }
 

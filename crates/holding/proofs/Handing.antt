@@ -9,10 +9,9 @@ use Rattle.table.specs.declared.wakes.Wake.{Wake}
 use Rattle.table.specs.declared.wakes.Wakes.{Wakes}
 use Rattle.table.specs.Wakes.{wakesOf, noWakesOf}
 use Rattle.table.proofs.Waking.{push-wakes}
-use Rattle.holding.specs.declared.Handed.{Handed}
-use Rattle.holding.specs.Holding.{handoverWake, handedAt, handedTo, handedToOf}
+use Rattle.holding.specs.Holding.{Handed, handoverWake, handedAt, handedTo, handedToOf}
 
-abbrev handed : List Process → Wakes → Handed
+abbrev pub handed : List Process → Wakes → Handed
 handed processes wakes = record { processes = processes; wakes = wakes }
 
 -- levels one after the other wake behind those that woke before

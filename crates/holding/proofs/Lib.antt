@@ -1,3 +1,4 @@
 pub mod Handing
 pub mod Room
+pub mod Deciding
 pub mod Keeping

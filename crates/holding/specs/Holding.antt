@@ -16,17 +16,24 @@ use Rattle.semaphores.specs.declared.Requested.the-variants.{Unusable, Held, Wa
 use Rattle.semaphores.specs.declared.Released.{Released}
 use Rattle.semaphores.specs.declared.Released.the-variants.{NotHeld, Freed, HandedTo}
 use Rattle.semaphores.specs.declared.Semaphores.{Semaphores}
-use Rattle.semaphores.specs.Semaphores.{requestOf as requestsOf, releaseOf as releasesOf, releasedFrom, wokenFrom}
-use Rattle.table.specs.declared.answers.Answer.the-variants.{Ok, ParameterError, NoSemaphoreNumber}
+use Rattle.semaphores.specs.Queues.{noneOf, withOf}
+use Rattle.semaphores.specs.Semaphores.{requestOf as requestsOf, releaseOf as releasesOf, releasedFrom, wokenFrom, releaseAllOf}
+use Rattle.table.specs.declared.answers.Answer.{Answer}
+use Rattle.table.specs.declared.answers.Answer.the-variants.{Ok, ParameterError, NoSemaphoreNumber, Suspended}
+use Rattle.table.specs.declared.configs.Config.{Config}
 use Rattle.table.specs.declared.wakes.Wake.{Wake}
+use Rattle.table.specs.declared.wakes.Wakes.{Wakes}
 use Rattle.table.specs.declared.wakes.Woken.the-variants.{ByHandover}
 use Rattle.table.specs.declared.Table.{Table}
-use Rattle.table.specs.Wakes.{wakesOf, wakePushOf}
+use Rattle.table.specs.Wakes.{wakePushOf}
 use Rattle.table.specs.Words.{minusOne}
 use Rattle.calls.specs.Effects.{Effect, refuse, done, suspended, waking}
 use Rattle.calls.specs.Levels.{processAt, withProcesses, withSemaphores, moving}
-use Rattle.calls.specs.Verdicts.{called}
-use Rattle.holding.specs.declared.Handed.{Handed}
+use Rattle.calls.specs.declared.Verdict.{Verdict}
+use Rattle.calls.specs.declared.Verdict.the-variants.{Passed, Refused}
+use Rattle.calls.specs.Verdicts.{byCaller, called}
+use Rattle.holding.specs.declared.AfterRequest.{AfterRequest}
+use Rattle.holding.specs.declared.AfterRelease.{AfterRelease}
 
 -- "6 if not usable; free: the caller holds it; already its own: OK, held once; held by another: 32, WR, last in that queue"
 abbrev pub requestedBy : Requested → Table → Semaphores → ℕ → Effect
@@ -74,14 +81,56 @@ releasedAllOf t caller = handing t (releasedFrom 96 0 caller (t .semaphores)) (w
 unfoldable pub releaseOf : Table → ℕ → ℕ → Effect
 releaseOf t caller number = called t caller [] (pick (eqb number minusOne) (releasedAllOf t caller) (releasedOf t caller number))
 
--- how that lies in the code's arrays
+-- ---- how the code comes to that: what a call does is decided on the parts that it needs
 
-unfoldable pub handedToOf : Handed → ℕ → Handed
-handedToOf handed level = record { processes = handedAt (handed .processes) level; wakes = wakePushOf (handed .wakes) (handoverWake level) }
+abbrev pub asking : Answer → Process → Semaphores → AfterRequest
+asking answer p s = record { answer = answer; process = p; semaphores = s }
+
+abbrev pub askedBy : Requested → Process → Semaphores → Semaphores → AfterRequest
+askedBy Unusable p s then = asking ParameterError p s
+askedBy Held p s then = asking Ok p then
+askedBy Waits p s then = asking Suspended (movedOf p WaitForSemaphore) then
+
+unfoldable pub requestedFor : Process → Semaphores → ℕ → ℕ → AfterRequest
+requestedFor p s caller number = askedBy (requestsOf s caller number .requested) p s (requestsOf s caller number .semaphores)
+
+abbrev pub askedAs : Verdict → Process → Semaphores → AfterRequest → AfterRequest
+askedAs Passed p s asked = asked
+askedAs (Refused answer) p s asked = asking answer p s
+
+unfoldable pub askedOf : Config → Process → Semaphores → ℕ → ℕ → AfterRequest
+askedOf c p s caller number = askedAs (byCaller c p caller) p s (requestedFor p s caller number)
+
+abbrev pub giving : Answer → Levels → Semaphores → AfterRelease
+giving answer woken s = record { answer = answer; woken = woken; semaphores = s }
+
+abbrev pub givenBy : Released → Semaphores → Semaphores → AfterRelease
+givenBy NotHeld s then = giving NoSemaphoreNumber noneOf s
+givenBy Freed s then = giving Ok noneOf then
+givenBy (HandedTo level) s then = giving Ok (withOf noneOf level) then
+
+unfoldable pub releasedFor : Semaphores → ℕ → ℕ → AfterRelease
+releasedFor s caller number =
+    pick (eqb number minusOne)
+    (giving Ok (releaseAllOf s caller .woken) (releaseAllOf s caller .semaphores))
+    (givenBy (releasesOf s caller number .released) s (releasesOf s caller number .semaphores))
+
+abbrev pub givenAs : Verdict → Semaphores → AfterRelease → AfterRelease
+givenAs Passed s given = given
+givenAs (Refused answer) s given = giving answer noneOf s
+
+unfoldable pub givenOf : Config → Process → Semaphores → ℕ → ℕ → AfterRelease
+givenOf c p s caller number = givenAs (byCaller c p caller) s (releasedFor s caller number)
 
 -- the levels that an array of levels has
 unfoldable pub listedOf : Levels → List ℕ
 listedOf woken = take (min (woken .count) 12) (woken .levels)
 
-unfoldable pub handoverOf : List Process → Levels → Handed
-handoverOf processes woken = record { processes = handedTo processes (listedOf woken); wakes = wakesOf (map handoverWake (listedOf woken)) }
+-- processes to which semaphores were handed over, and their wakes
+pub record Handed : Type 0 where
+  pub processes : List Process
+  pub wakes : Wakes
+
+-- one more wakes
+unfoldable pub handedToOf : Handed → ℕ → Handed
+handedToOf handed level = record { processes = handedAt (handed .processes) level; wakes = wakePushOf (handed .wakes) (handoverWake level) }

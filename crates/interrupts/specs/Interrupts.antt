@@ -8,10 +8,11 @@ use Rattle.inputs.specs.declared.InputSet.{InputSet}
 use Rattle.inputs.specs.InputSet.{hasOf, insertOf, removeOf, bothOf, runOf, countOf}
 use Rattle.process.specs.declared.Process.{Process}
 use Rattle.process.specs.Messages.{zeros}
+use Rattle.process.specs.Process.{movedOf}
 use Rattle.process.specs.States.{isOf}
 use Rattle.process.specs.declared.states.State.the-variants.{WaitingForEvent}
 use Rattle.process.specs.declared.states.Cause.the-variants.{WaitForEvent, Event}
-use Rattle.table.specs.declared.answers.Answer.the-variants.{Ok, CommandPrivileged, IllegalInput}
+use Rattle.table.specs.declared.answers.Answer.the-variants.{Ok, CommandPrivileged, IllegalInput, Suspended}
 use Rattle.table.specs.declared.configs.Config.{Config}
 use Rattle.table.specs.declared.configs.Privileged.{Privileged}
 use Rattle.table.specs.declared.configs.Privilege.{Privilege}
@@ -20,10 +21,14 @@ use Rattle.table.specs.declared.wakes.Wake.{Wake}
 use Rattle.table.specs.declared.wakes.Woken.the-variants.{ByEvent}
 use Rattle.table.specs.declared.Table.{Table}
 use Rattle.table.specs.Configuration.{inputsOf, privilegeOf, ownerOf}
-use Rattle.calls.specs.Effects.{Effect, inputs, refuse, done, suspended, carrying, waking}
+use Rattle.table.specs.Wakes.{noWakesOf, wakesOf}
+use Rattle.calls.specs.declared.Decided.{Decided}
+use Rattle.calls.specs.Decisions.{decided, decidedBy}
+use Rattle.calls.specs.Effects.{Effect, nothing, inputs, refuse, done, suspended, carrying, waking}
 use Rattle.calls.specs.Levels.{processAt, processOf, withMask, withLatch, moving}
 use Rattle.calls.specs.declared.Verdict.{Verdict}
 use Rattle.calls.specs.Verdicts.{check, after, byCaller, checked, called}
+use Rattle.interrupts.specs.declared.AfterEvent.{AfterEvent}
 
 -- "11 ILLIOADDRESS: no such input"
 abbrev pub isInput : Table → ℕ → Bool
@@ -67,8 +72,11 @@ resetInterruptOf t caller input =
     (done (withLatch t (removeOf (t .latch) input)))
 
 -- the inputs of a place with mask bit and latch set
+abbrev pub cameWith : InputSet → InputSet → Privileged → InputSet
+cameWith mask latch place = bothOf (bothOf (runOf (place .first) (place .last)) mask) latch
+
 abbrev pub cameOf : Table → Privileged → InputSet
-cameOf t place = bothOf (bothOf (runOf (place .first) (place .last)) (t .mask)) (t .latch)
+cameOf t place = cameWith (t .mask) (t .latch) place
 
 -- "if some own input has mask bit and latch set, answers with all such; otherwise 32 and WE"
 unfoldable pub awaitingOf : Table → ℕ → Privileged → Effect
@@ -112,3 +120,27 @@ latchedOf t input = openedBy (ownerOf (t .config) input) (withLatch t (insertOf 
 -- "An event (11, else 0) sets the input's latch."
 unfoldable pub eventOf : Table → ℕ → Effect
 eventOf t input = checked t (check (isInput t input) IllegalInput ∷ []) (latchedOf t input)
+
+-- ---- how the code comes to that: what AWAITINTERRUPT and an event do is decided on the parts that they need
+
+-- AWAITINTERRUPT changes the caller's record alone
+
+unfoldable pub awaitingFor : Process → InputSet → InputSet → Privileged → Decided
+awaitingFor p mask latch place =
+    pick (eqb (countOf (cameWith mask latch place)) 0)
+    (decided Suspended nothing (movedOf p WaitForEvent))
+    (decided Ok (inputs (cameWith mask latch place)) p)
+
+abbrev pub awaitedBy : Privilege → Process → InputSet → InputSet → Decided
+awaitedBy (Owns place) p mask latch = awaitingFor p mask latch place
+awaitedBy Nobody p mask latch = decided CommandPrivileged nothing p
+
+unfoldable pub awaitedOf : Config → Process → InputSet → InputSet → ℕ → Decided
+awaitedOf c p mask latch caller = decidedBy (byCaller c p caller) p (awaitedBy (privilegeOf c caller) p mask latch)
+
+-- an event changes the record of the input's owner, besides the latch: where that is a level above 11, the code looks at another's record, and nobody wakes
+unfoldable pub openedFor : Process → InputSet → ℕ → ℕ → AfterEvent
+openedFor p mask input owner =
+    pick (isOf (p .state) WaitingForEvent && hasOf mask input && ltb owner 12)
+    (record { process = movedOf p Event; wakes = wakesOf (eventWake owner input ∷ []) })
+    (record { process = p; wakes = noWakesOf })

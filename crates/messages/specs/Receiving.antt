@@ -10,15 +10,17 @@ use Rattle.process.specs.declared.Target.{Target}
 use Rattle.process.specs.declared.Target.the-variants.{All}
 use Rattle.process.specs.declared.Taken.{Taken}
 use Rattle.process.specs.declared.states.Cause.the-variants.{WaitForMessage}
-use Rattle.process.specs.Process.{takenOf, isKnown}
-use Rattle.table.specs.declared.answers.Answer.the-variants.{ReceiverUnknown, BufferEmpty}
+use Rattle.process.specs.Process.{movedOf, takenOf, isKnown}
+use Rattle.table.specs.declared.answers.Answer.the-variants.{ReceiverUnknown, BufferEmpty, Suspended}
 use Rattle.table.specs.declared.configs.Config.{Config}
 use Rattle.table.specs.declared.Table.{Table}
 use Rattle.table.specs.Configuration.{receiverOf}
-use Rattle.calls.specs.Effects.{Effect, message, done, suspended, carrying}
+use Rattle.calls.specs.declared.Decided.{Decided}
+use Rattle.calls.specs.Decisions.{decided, decidedBy}
+use Rattle.calls.specs.Effects.{Effect, nothing, message, done, suspended, carrying}
 use Rattle.calls.specs.Levels.{processOf, withProcess, withProcesses, moving}
 use Rattle.calls.specs.Outcomes.{toldAs}
-use Rattle.calls.specs.Verdicts.{check, called}
+use Rattle.calls.specs.Verdicts.{check, after, byCaller, called}
 use Rattle.messages.specs.declared.Clearing.{Clearing}
 use Rattle.messages.specs.Receivers.{receiversOf, clearedAt}
 
@@ -55,7 +57,22 @@ clearMessageOf t caller receiver =
     ∷ [])
     (done (withProcesses t (clearedFor (t .config) (receiverOf (t .config) receiver) (t .processes))))
 
--- how that lies in the code's array
+-- ---- how the code comes to that
+
+-- RECEIVE and AWAITMESSAGE change the caller's record alone: what they come to is decided on it
+
+abbrev pub tookOf : Process → Decided
+tookOf p = decided (toldAs (takenOf p .told)) (message (takenOf p .message)) (takenOf p .process)
+
+unfoldable pub receivedOf : Config → Process → ℕ → Decided
+receivedOf c p caller = decidedBy (after (byCaller c p caller) (check (not (eqb (p .buffer .count) 0)) BufferEmpty ∷ [])) p (tookOf p)
+
+unfoldable pub awaitedOf : Config → Process → ℕ → Decided
+awaitedOf c p caller =
+    decidedBy (byCaller c p caller) p
+    (pick (eqb (p .buffer .count) 0) (decided Suspended nothing (movedOf p WaitForMessage)) (tookOf p))
+
+-- the buffers that have been emptied, in the code's array
 
 unfoldable pub clearingAt : Clearing → ℕ → Clearing
 clearingAt clearing level = record { processes = clearedAt (clearing .processes) level }

@@ -4,8 +4,10 @@ ghost use Rattle.common.specs.Choice.{pick};
 ghost use Rattle.calls.specs.Effects.{outcomeOf};
 ghost use Rattle.posting.specs.Posting.{postingOf};
 ghost use Rattle.messages.specs.Sending.{sendPosted, broadcastPosted, sentOf, sendOf};
-ghost use Rattle.messages.specs.Receiving.{takingOf, receiveOf, awaitMessageOf, clearingAt, allCleared, clearingFor, clearMessageOf};
+ghost use Rattle.messages.specs.Receiving.{tookOf, receivedOf, receiveOf, awaitedOf, awaitMessageOf, clearingAt, allCleared, clearingFor, clearMessageOf};
+use calls::Decided;
 use calls::Verdict;
+use inputs::InputSet;
 use posting::Origin;
 use posting::Posting;
 use process::Condition;
@@ -14,6 +16,7 @@ use process::Target;
 use process::buffers::Message;
 use process::states::Cause;
 use table::Outcome;
+use table::Shown;
 use table::Table;
 use table::answers::Answer;
 use table::configs::Config;
@@ -111,60 +114,83 @@ pub fn send(
     }
 }
 
-// The caller's oldest message is handed to it.
-fn taking(table: Table, caller: u8) -> Outcome
-    ensures { λ r. ⌜ r ≡ outcomeOf (takingOf table caller) ⌝ }
+// The oldest message of a process is handed to it.
+fn took(process: Process) -> Decided
+    ensures { λ r. ⌜ r ≡ tookOf process ⌝ }
 {
-    let processes = table.processes;
-    let taken = calls::process_at(processes, caller as u16).taken();
+    let taken = process.taken();
     let told = taken.told;
     let message = taken.message;
     let process = taken.process;
-    let processes = calls::with_process(processes, caller as u16, process);
-    let mut changed = table;
-    changed.processes = processes;
-    calls::with_message(changed, told, message)
+    let answer = calls::told_as(told);
+    Decided {
+        answer,
+        shown: Shown::Message,
+        message,
+        inputs: InputSet::empty(),
+        process,
+    }
 }
 
-pub fn receive(table: Table, caller: u8) -> Outcome
-    ensures { λ r. ⌜ r ≡ outcomeOf (receiveOf table caller) ⌝ }
+// RECEIVE of a level with this record.
+fn received(config: Config, process: Process, caller: u8) -> Decided
+    ensures { λ r. ⌜ r ≡ receivedOf config process caller ⌝ }
 {
-    let config = table.config;
-    let processes = table.processes;
-    let process = calls::process_at(processes, caller as u16);
     let buffer = process.buffer;
     let verdict = calls::caller_checked(config, process, caller).check(
         buffer.count != 0,
         Answer::BufferEmpty,
     );
     match verdict {
-        Verdict::Refused(answer) => table.refused(answer),
-        Verdict::Passed => taking(table, caller),
+        Verdict::Refused(answer) => Decided::alone(answer, process),
+        Verdict::Passed => took(process),
+    }
+}
+
+pub fn receive(table: Table, caller: u8) -> Outcome
+    ensures { λ r. ⌜ r ≡ outcomeOf (receiveOf table caller) ⌝ }
+{
+    let mut after = table;
+    let config = after.config;
+    // A level above 11 is refused whatever record stands in for its own, and that one is put back as it was.
+    let at = common::least(caller as usize, 11);
+    let process = after.processes[at];
+    let decided = received(config, process, caller);
+    let process = decided.process;
+    after.processes[at] = process;
+    calls::told(after, decided)
+}
+
+// AWAITMESSAGE of a level with this record.
+fn awaited(config: Config, process: Process, caller: u8) -> Decided
+    ensures { λ r. ⌜ r ≡ awaitedOf config process caller ⌝ }
+{
+    let buffer = process.buffer;
+    let verdict = calls::caller_checked(config, process, caller);
+    match verdict {
+        Verdict::Refused(answer) => Decided::alone(answer, process),
+        Verdict::Passed => {
+            if buffer.count == 0 {
+                let process = process.moved(Cause::WaitForMessage);
+                Decided::alone(Answer::Suspended, process)
+            } else {
+                took(process)
+            }
+        }
     }
 }
 
 pub fn await_message(table: Table, caller: u8) -> Outcome
     ensures { λ r. ⌜ r ≡ outcomeOf (awaitMessageOf table caller) ⌝ }
 {
-    let config = table.config;
-    let processes = table.processes;
-    let process = calls::process_at(processes, caller as u16);
-    let buffer = process.buffer;
-    let verdict = calls::caller_checked(config, process, caller);
-    match verdict {
-        Verdict::Refused(answer) => table.refused(answer),
-        Verdict::Passed => {
-            if buffer.count == 0 {
-                let process = process.moved(Cause::WaitForMessage);
-                let processes = calls::with_process(processes, caller as u16, process);
-                let mut waiting = table;
-                waiting.processes = processes;
-                calls::answered(waiting, Answer::Suspended, Wakes::none())
-            } else {
-                taking(table, caller)
-            }
-        }
-    }
+    let mut after = table;
+    let config = after.config;
+    let at = common::least(caller as usize, 11);
+    let process = after.processes[at];
+    let decided = awaited(config, process, caller);
+    let process = decided.process;
+    after.processes[at] = process;
+    calls::told(after, decided)
 }
 
 // The processes, as far as their buffers have been emptied.

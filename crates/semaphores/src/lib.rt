@@ -176,16 +176,19 @@ impl Semaphores {
     pub fn release_all(self, level: u8) -> ReleaseAll
         ensures { λ r. ⌜ r ≡ releaseAllOf self level ⌝ }
     {
-        let mut all = ReleaseAll {
-            woken: Levels::none(),
-            semaphores: self,
-        };
+        let mut woken = Levels::none();
+        let mut semaphores = self;
         let mut number: u16 = 0;
         while number < 96 {
-            all = all.also(level, number);
+            // Most numbers are another's or nobody's: these are passed over without a copy of anything.
+            if semaphores.holders[number as usize] == level {
+                let all = ReleaseAll { woken, semaphores }.also(level, number);
+                woken = all.woken;
+                semaphores = all.semaphores;
+            }
             number += 1;
         }
-        all
+        ReleaseAll { woken, semaphores }
     }
 }
 

@@ -1,8 +1,8 @@
 -- Quiet ticks. Assumes nothing.
-use mathlib.Core.Path.{_≡_, _∙_, refl, ap, ap₂, sym, subst}
+use mathlib.Core.Path.{_≡_, _∙_, refl, ap, ap₂, sym}
 use mathlib.Core.Bool.{true, false}
 use mathlib.Core.List.{List, [], _∷_, _++_, append-nil, append-assoc}
-use Prim.Native.Nat.{ℕ, zero, suc, _+_, _-_, _<_, _≤_, min}
+use Prim.Native.Nat.{ℕ, zero, suc, _+_, _-_, _<_, _≤_}
 use native.Mathlib.Omega.{arith}
 use native.Mathlib.Nat.{add-assoc, add-zero, zero-add}
 use native.Mathlib.Numerals.{add-one}
@@ -17,19 +17,21 @@ use Rattle.day.proofs.Until.{until-range}
 use Rattle.orders.specs.declared.Order.{Order}
 use Rattle.orders.specs.declared.Orders.{Orders}
 use Rattle.orders.specs.Orders.{standingOf, ordersOf}
-use Rattle.orders.specs.Advance.{dueAt, dueOf, advanceOf, nextDue, nextDueOf}
+use Rattle.orders.specs.Advance.{dueAt, dueOf, dueCountOf, advanceOf, nextDue, nextDueOf}
 use Rattle.orders.proofs.Nearest.{quiet-none, quiet-same}
 use Rattle.orders.proofs.Standing.{standing-orders}
 use Rattle.orders.proofs.Tables.{standing-most}
 use Rattle.posting.specs.Posting.{allOf}
 use Rattle.posting.proofs.Letters.{push-all}
 use Rattle.table.specs.declared.wakes.Wakes.{Wakes}
+use Rattle.table.specs.declared.Outcome.{Outcome}
 use Rattle.table.specs.declared.Table.{Table}
-use Rattle.table.specs.Wakes.{wakesOf, noWakesOf, wakePushOf}
-use Rattle.calls.specs.Levels.{withClock, withOrders}
-use Rattle.ticking.specs.declared.Ticked.{Ticked}
-use Rattle.ticking.specs.Strides.{addedTo, atOf, quietOf, onOf}
-use Rattle.ticking.specs.Ticking.{Run, run, carriedOut, carryingOut, stopping, passing, tickAt, tickOf, followed, ticksOf}
+use Rattle.table.specs.Wakes.{noWakesOf, wakePushOf}
+use Rattle.calls.specs.Effects.{outcomeOf}
+use Rattle.calls.specs.Levels.{withClock, withScheduler, withOrders}
+use Rattle.calls.specs.Outcomes.{carriesNumber}
+use Rattle.calls.proofs.Obeying.{outcome-number}
+use Rattle.ticking.specs.Ticking.{Run, run, carriedOut, carryingOut, stopping, passing, tickAt, tickOf, followed, ticksOf, runEffect}
 
 -- the next due moment is at least one tick away
 pub next-later : (clock : TimeOfDay) (l : List Order) → 0 < nextDue clock l
@@ -63,6 +65,12 @@ ticks-plus (suc m) n t =
     ap (λ k. ticksOf k t) longer
     ∙ ap (followed (tickOf t)) (ticks-plus m n (tickOf t .table))
     ∙ sym (followed-third (tickOf t) (ticksOf m (tickOf t .table)) (ticksOf n (ticksOf m (tickOf t .table) .table)))
+
+-- no tick
+pub ticks-none : (n : ℕ) (t : Table) → n ≤ 0 → ticksOf n t ≡ run 0 [] t
+unfolding ticksOf
+ticks-none zero t none = refl
+ticks-none (suc n) t none = absurd (omega arith)
 
 -- one tick
 pub ticks-one : (t : Table) → ticksOf 1 t ≡ tickOf t
@@ -146,134 +154,76 @@ module _ (t : Table) (runs : t .scheduler .running ≡ true) (stays : t .schedul
   quiet-run (suc m) before = after-quiet m (quiet-run m (omega arith)) ∙ next-quiet m before
 
   -- and the ticks up to a moment are that moment's alone
-  running-stride : (m : ℕ) → m < nextDueOf (t .clock) (t .orders) → ticksOf (suc m) t ≡ carryingOut (forwardOf (t .clock) (suc m)) t
-  running-stride m before = after-quiet m (quiet-run m before)
+  pub stride : (m : ℕ) → m < nextDueOf (t .clock) (t .orders) → ticksOf (m + 1) t ≡ carryingOut (forwardOf (t .clock) (m + 1)) t
+  stride m before = rw add-one (after-quiet m (quiet-run m before))
 
--- ---- the scheduler is stopped
+-- ---- the scheduler is stopped, or the first tick stops it
 
-abbrev clockAt : ℕ → Table → Table
-clockAt zero t = t
-clockAt (suc m) t = withClock t (forwardOf (t .clock) (suc m))
+-- a table after some ticks: another time, and a scheduler at rest
+abbrev pub restedAt : ℕ → Table → Table
+restedAt n t = withScheduler (withClock t (forwardOf (t .clock) n)) (record { running = false; switch = t .scheduler .switch })
 
-module _ (t : Table) (rests : t .scheduler .running ≡ false) where
-  stopped-tick : (m : ℕ) → tickOf (clockAt m t) ≡ run 0 [] (clockAt (suc m) t)
+module _ (t : Table) (stops : t .scheduler .running ≡ true → t .scheduler .switch ≡ true) where
+  -- the first tick finds it stopped, or stops it
+  first-rests : tickOf t ≡ run 0 [] (restedAt 1 t)
+  unfolding tickOf stopping passing
+  first-rests =
+      let now = forwardOf (t .clock) 1 in
+      by-test (t .scheduler .running)
+      (λ runs. tick-stops now t runs (stops runs))
+      (λ rests. tick-stopped now t rests
+      ∙ ap (λ running. run 0 [] (withScheduler (withClock t now) (record { running = running; switch = t .scheduler .switch }))) rests)
+
+  -- and from then on only the clock moves
+  pub resting-run : (n : ℕ) → 0 < n → ticksOf n t ≡ run 0 [] (restedAt n t)
   unfolding tickOf passing
-  stopped-tick zero = tick-stopped (forwardOf (t .clock) 1) t rests
-  stopped-tick (suc m) = tick-stopped _ (clockAt (suc m) t) rests ∙ ap (λ now. run 0 [] (withClock t now)) (soon-later (t .clock) m)
+  resting-run zero some = absurd (omega arith)
+  resting-run (suc zero) some = ticks-one t ∙ first-rests
+  resting-run (suc (suc m)) some =
+      one-more (suc m) t (restedAt (suc m) t) (resting-run (suc m) (omega arith))
+      ∙ tick-stopped _ (restedAt (suc m) t) refl
+      ∙ ap (λ now. run 0 [] (withClock (restedAt (suc m) t) now)) (soon-later (t .clock) m)
 
-  -- only the clock moves
-  stopped-run : (m : ℕ) → ticksOf m t ≡ run 0 [] (clockAt m t)
-  unfolding ticksOf
-  stopped-run zero = refl
-  stopped-run (suc m) = one-more m t (clockAt m t) (stopped-run m) ∙ stopped-tick m
-
--- ---- both
-
-abbrev pub ticked : ℕ → Wakes → Table → Ticked
-ticked count wakes t = record { count = count; wakes = wakes; table = t }
-
-abbrev Strides : Table → ℕ → Type 0
-Strides t m = ticksOf (m + 1) t ≡ tickAt (forwardOf (t .clock) (m + 1)) t
-
-running-strides : (t : Table) (m : ℕ) → t .scheduler .running ≡ true → t .scheduler .switch ≡ false → m < nextDueOf (t .clock) (t .orders) → Strides t m
-running-strides t m runs stays before = rw add-one (running-stride t runs stays m before ∙ sym (tick-running _ t runs stays))
-
-stopped-strides : (t : Table) (m : ℕ) → t .scheduler .running ≡ false → Strides t m
-unfolding passing
-stopped-strides t m rests = rw add-one (stopped-run t rests (suc m) ∙ sym (tick-stopped _ t rests))
-
-one-strides : (t : Table) → Strides t 0
-unfolding tickOf
-one-strides t = ticks-one t
-
--- how many ticks are quiet, in each of the three cases
-module _ (t : Table) (ticks : ℕ) where
-  quiet-stops : t .scheduler .running ≡ true → t .scheduler .switch ≡ true → quietOf t ticks ≡ 0
-  unfolding quietOf
-  quiet-stops runs stops = rw (runs, stops)
-
-  quiet-runs : t .scheduler .running ≡ true → t .scheduler .switch ≡ false → quietOf t ticks ≡ min ticks (nextDueOf (t .clock) (t .orders) - 1)
-  unfolding quietOf
-  quiet-runs runs stays = rw (runs, stays)
-
-  quiet-rests : t .scheduler .running ≡ false → quietOf t ticks ≡ ticks
-  unfolding quietOf
-  quiet-rests rests = rw rests
-
-  -- as many ticks as are quiet, and one more, are one tick at the last one's time
-  pub stride : Strides t (quietOf t ticks)
-  stride =
-      by-test (t .scheduler .running)
-      (λ runs. by-test (t .scheduler .switch)
-      (λ stops. subst (Strides t) (sym (quiet-stops runs stops)) (one-strides t))
-      (λ stays. subst (Strides t) (sym (quiet-runs runs stays))
-      (running-strides t (min ticks (nextDueOf (t .clock) (t .orders) - 1)) runs stays (omega (arith, next-due-later (t .clock) (t .orders))))))
-      (λ rests. subst (Strides t) (sym (quiet-rests rests)) (stopped-strides t ticks rests))
-
-  -- a stride is no longer than the ticks that there are
-  pub quiet-within : quietOf t ticks ≤ ticks
-  quiet-within =
-      by-test (t .scheduler .running)
-      (λ runs. by-test (t .scheduler .switch) (λ stops. omega (arith, quiet-stops runs stops)) (λ stays. omega (arith, quiet-runs runs stays)))
-      (λ rests. omega (arith, quiet-rests rests))
+-- ---- a run in the code's arrays
 
 -- a tick carries out no more orders than there are places
-pub tick-few : (now : TimeOfDay) (t : Table) → tickAt now t .count ≤ 64
-unfolding tickAt stopping passing carryingOut dueOf
-tick-few now t =
-    by-test (t .scheduler .running)
-    (λ runs. by-test (t .scheduler .switch)
-    (λ stops. rw (runs, stops) (omega arith))
-    (λ stays. rw (runs, stays) (omega (arith, length-keep (dueAt now) (standingOf (t .orders)), standing-most (t .orders)))))
-    (λ rests. rw rests (omega arith))
+pub tick-few : (now : TimeOfDay) (o : Orders) → dueCountOf now o ≤ 64
+unfolding dueCountOf dueOf
+tick-few now o = omega (arith, length-keep (dueAt now) (standingOf o), standing-most o)
 
 -- where ticks end that come after others: with so many carried out, and such wakes
-unfoldable pub endOf : Wakes → ℕ → Run → Ticked
-endOf wakes count x = record { count = count + x .count; wakes = foldOf wakePushOf wakes (x .wakes); table = x .table }
+unfoldable pub endOf : Wakes → ℕ → Run → Outcome
+endOf wakes count x = carriesNumber (x .table) (count + x .count) (foldOf wakePushOf wakes (x .wakes))
+
+-- the same, where some more of them are done and so many are left
+abbrev pub endAfter : Wakes → ℕ → ℕ → Run → Outcome
+endAfter wakes count left x = endOf (foldOf wakePushOf wakes (x .wakes)) (count + x .count) (ticksOf left (x .table))
 
 -- some of them on, the end is the same
-pub end-turn : (wakes : Wakes) (count m n : ℕ) (t : Table)
-    → endOf (foldOf wakePushOf wakes (ticksOf m t .wakes)) (count + ticksOf m t .count) (ticksOf n (ticksOf m t .table)) ≡ endOf wakes count (ticksOf (m + n) t)
+end-turn : (wakes : Wakes) (count m n : ℕ) (t : Table) → endAfter wakes count n (ticksOf m t) ≡ endOf wakes count (ticksOf (m + n) t)
 unfolding endOf
 end-turn wakes count m n t =
-    ap₂ (λ ws k. ticked k ws (ticksOf n (ticksOf m t .table) .table))
+    ap₂ (λ ws k. carriesNumber (ticksOf n (ticksOf m t .table) .table) k ws)
     (sym (fold-append wakePushOf wakes (ticksOf m t .wakes) (ticksOf n (ticksOf m t .table) .wakes)))
     (add-assoc count (ticksOf m t .count) (ticksOf n (ticksOf m t .table) .count))
-    ∙ ap (λ x. ticked (count + x .count) (foldOf wakePushOf wakes (x .wakes)) (x .table)) (sym (ticks-plus m n t))
+    ∙ ap (endOf wakes count) (sym (ticks-plus m n t))
 
--- a stride of the code's
-pub on-stride : (x : Ticked) (ticks : ℕ) → onOf x (quietOf (x .table) ticks) ≡ addedTo (x .wakes) (ticksOf (quietOf (x .table) ticks + 1) (x .table))
-unfolding onOf atOf
-on-stride x ticks = ap (addedTo (x .wakes)) (sym (stride (x .table) ticks))
-
-pub on-few : (x : Ticked) (quiet : ℕ) → onOf x quiet .count ≤ 64
-unfolding onOf atOf addedTo
-on-few x quiet = tick-few (forwardOf (x .table .clock) (quiet + 1)) (x .table)
-
--- after a stride as many ticks less are left, and the end is the same
-stride-turn : (x : Ticked) (carried left quiet : ℕ) → quiet < left → onOf x quiet ≡ addedTo (x .wakes) (ticksOf (quiet + 1) (x .table))
-    → endOf (onOf x quiet .wakes) (carried + onOf x quiet .count) (ticksOf (left - (quiet + 1)) (onOf x quiet .table)) ≡ endOf (x .wakes) carried (ticksOf left (x .table))
-unfolding addedTo
-stride-turn x carried left quiet within strides =
-    let all : quiet + 1 + (left - (quiet + 1)) ≡ left = omega arith in
-    ap (λ y. endOf (y .wakes) (carried + y .count) (ticksOf (left - (quiet + 1)) (y .table))) strides
-    ∙ end-turn (x .wakes) carried (quiet + 1) (left - (quiet + 1)) (x .table)
-    ∙ ap (λ n. endOf (x .wakes) carried (ticksOf n (x .table))) all
-
-pub on-turn : (x : Ticked) (carried left quiet : ℕ) → 0 < left → quiet ≡ quietOf (x .table) (left - 1)
-    → endOf (onOf x quiet .wakes) (carried + onOf x quiet .count) (ticksOf (left - (quiet + 1)) (onOf x quiet .table)) ≡ endOf (x .wakes) carried (ticksOf left (x .table))
-on-turn x carried left quiet some quiets =
-    stride-turn x carried left quiet
-    (omega (arith, quiets, quiet-within (x .table) (left - 1)))
-    (subst (λ q. onOf x q ≡ addedTo (x .wakes) (ticksOf (q + 1) (x .table))) (sym quiets) (on-stride x (left - 1)))
+-- a stride on, as many ticks less are left, and the end is the same
+pub stride-turn : (wakes : Wakes) (count left m : ℕ) (t : Table)
+    → t .scheduler .running ≡ true → t .scheduler .switch ≡ false → m < left → m < nextDueOf (t .clock) (t .orders)
+    → endAfter wakes count (left - (m + 1)) (carryingOut (forwardOf (t .clock) (m + 1)) t) ≡ endOf wakes count (ticksOf left t)
+stride-turn wakes count left m t runs stays within before =
+    let all : m + 1 + (left - (m + 1)) ≡ left = omega arith in
+    ap (endAfter wakes count (left - (m + 1))) (sym (stride t runs stays m before))
+    ∙ end-turn wakes count (m + 1) (left - (m + 1)) t
+    ∙ ap (λ n. endOf wakes count (ticksOf n t)) all
 
 -- with no tick left it is there
-pub end-none : (wakes : Wakes) (carried left : ℕ) (t : Table) → left ≤ 0 → endOf wakes carried (ticksOf left t) ≡ ticked carried wakes t
-unfolding endOf ticksOf
-end-none wakes carried zero t none = ap (λ n. ticked n wakes t) (add-zero carried)
-end-none wakes carried (suc left) t none = absurd (omega arith)
+pub end-none : (wakes : Wakes) (carried left : ℕ) (t : Table) → left ≤ 0 → endOf wakes carried (ticksOf left t) ≡ carriesNumber t carried wakes
+unfolding endOf
+end-none wakes carried left t none = ap (endOf wakes carried) (ticks-none left t none) ∙ ap (λ n. carriesNumber t n wakes) (add-zero carried)
 
 -- and from the first tick on it is what all of them do
-pub end-all : (x : Run) → endOf noWakesOf 0 x ≡ ticked (x .count) (wakesOf (x .wakes)) (x .table)
+pub end-all : (x : Run) → endOf noWakesOf 0 x ≡ outcomeOf (runEffect x)
 unfolding endOf noWakesOf
-end-all x = ap₂ (λ n ws. ticked n ws (x .table)) (zero-add (x .count)) (push-all [] (x .wakes))
+end-all x = ap₂ (carriesNumber (x .table)) (zero-add (x .count)) (push-all [] (x .wakes)) ∙ outcome-number (x .table) (x .count) (x .wakes)

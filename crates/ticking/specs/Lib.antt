@@ -1,2 +1,1 @@
 pub mod Ticking
-pub mod Strides

@@ -1,40 +1,25 @@
 // The clock's ticks: one, and a run of any number of them, for a table that is known to be sound.
 ghost use mathlib.Core.Path.{_≡_};
+ghost use mathlib.Core.Bool.{true, false};
 ghost use Rattle.calls.specs.Effects.{outcomeOf};
-ghost use Rattle.ticking.specs.Ticking.{runEffect, tickOf, ticksOf};
-ghost use Rattle.ticking.specs.Strides.{carriedFrom, atOf, quietOf, onOf};
+ghost use Rattle.orders.specs.Advance.{dueOf};
+ghost use Rattle.orders.specs.Orders.{standingOf};
+ghost use Rattle.posting.specs.Posting.{addedOf};
+ghost use Rattle.ticking.specs.Ticking.{carriedOut, runEffect, tickOf, ticksOf};
 use day::TimeOfDay;
 use orders::Orders;
 use posting::Origin;
 use posting::Posting;
-use process::Process;
 use table::Outcome;
 use table::Table;
 use table::wakes::Wakes;
 
-// A table after some ticks: how many orders the last of them carried out, and who woke by all of them.
-pub struct Ticked {
-    pub count: u64,
-    pub wakes: Wakes,
-    pub table: Table,
-}
-
-// The orders due now are carried out in order of acceptance: each one's message goes to its receiver.
-fn carried_out(
-    places: usize,
-    orders: Orders,
-    now: TimeOfDay,
-    processes: [Process; 12],
-    wakes: Wakes,
-) -> Posting
-    ensures { λ r. ⌜ r ≡ carriedFrom places orders now processes wakes ⌝ }
+// The orders due now are carried out in order of acceptance, after what was delivered before: each one's message goes to its receiver.
+fn carried_out(places: usize, orders: Orders, now: TimeOfDay, begun: Posting) -> Posting
+    ensures { λ r. ⌜ r ≡ addedOf begun (carriedOut places (dueOf now (standingOf orders)) (begun .processes)) ⌝ }
 {
     let count = common::least(orders.count, orders::MOST_ORDERS);
-    let mut posting = Posting {
-        processes,
-        wakes,
-        full: false,
-    };
+    let mut posting = begun;
     let mut at = 0;
     while at < count {
         let order = orders.places[at];
@@ -66,104 +51,70 @@ fn carried_out(
     posting
 }
 
-// The tick at which the clock reads `now`: a scheduler that is to stop stops, one that runs carries out what is due.
-fn tick_at(table: Table, wakes: Wakes, now: TimeOfDay) -> Ticked
-    ensures { λ r. ⌜ r ≡ atOf now wakes table ⌝ }
+// So many ticks of a scheduler that runs on. Quiet ones are not walked: each turn of the loop goes to the next due moment. What changes lies in
+// locals, so that a turn copies no table.
+fn running_on(table: Table, count: u32) -> Outcome
+    requires { ⌜ (table .scheduler .running ≡ true) × (table .scheduler .switch ≡ false) ⌝ }
+    ensures { λ r. ⌜ r ≡ outcomeOf (runEffect (ticksOf count table)) ⌝ }
 {
-    let config = table.config;
-    let scheduler = table.scheduler;
-    let orders = table.orders;
-    let mut table = table;
-    table.clock = now;
-    if scheduler.running {
-        if scheduler.switch {
-            table.scheduler.running = false;
-            return Ticked {
-                count: 0,
-                wakes,
-                table,
-            };
-        }
-        let processes = table.processes;
-        let posting = carried_out(config.places as usize, orders, now, processes, wakes);
-        let processes = posting.processes;
-        let wakes = posting.wakes;
-        let count = orders.due_count(now) as u64;
-        let orders = orders.advance(now);
-        table.processes = processes;
-        table.orders = orders;
-        return Ticked {
-            count,
-            wakes,
-            table,
-        };
+    let mut after = table;
+    let config = after.config;
+    let places = config.places as usize;
+    let processes = after.processes;
+    let mut posting = Posting::begin(processes);
+    let mut orders = after.orders;
+    let mut clock = after.clock;
+    let mut carried: u64 = 0;
+    let mut left = count;
+    while 0 < left {
+        let passed = common::least_u32(left - 1, orders.next_due(clock) - 1);
+        clock = clock.forward(passed as u64 + 1);
+        carried += orders.due_count(clock) as u64;
+        posting = carried_out(places, orders, clock, posting);
+        orders = orders.advance(clock);
+        left -= passed + 1;
     }
-    Ticked {
-        count: 0,
-        wakes,
-        table,
+    let processes = posting.processes;
+    let wakes = posting.wakes;
+    after.clock = clock;
+    after.processes = processes;
+    after.orders = orders;
+    calls::with_number(after, carried, wakes)
+}
+
+// So many ticks of a scheduler that is stopped, or that the first of them stops: only the clock moves.
+fn resting(table: Table, count: u32) -> Outcome
+    requires { ⌜ (table .scheduler .running ≡ true → table .scheduler .switch ≡ true) ⌝ }
+    ensures { λ r. ⌜ r ≡ outcomeOf (runEffect (ticksOf count table)) ⌝ }
+{
+    let clock = table.clock;
+    let mut after = table;
+    if 0 < count {
+        after.clock = clock.forward(count as u64);
+        after.scheduler.running = false;
     }
+    calls::with_number(after, 0, Wakes::none())
 }
 
 // One tick.
 pub fn tick(table: Table) -> Outcome
     ensures { λ r. ⌜ r ≡ outcomeOf (runEffect (tickOf table)) ⌝ }
 {
-    let clock = table.clock;
-    let ticked = tick_at(table, Wakes::none(), clock.forward(1));
-    let wakes = ticked.wakes;
-    let table = ticked.table;
-    calls::with_number(table, ticked.count, wakes)
+    ticks(table, 1)
 }
 
-// How many of the next ticks do nothing but move the clock, as far as that is seen at once.
-fn quiet(table: Table, ticks: u32) -> u32
-    ensures { λ r. ⌜ r ≡ quietOf table ticks ⌝ }
-{
-    let found = table.scheduler;
-    let clock = table.clock;
-    let orders = table.orders;
-    if found.running {
-        if found.switch {
-            0
-        } else {
-            common::least_u32(ticks, orders.next_due(clock) - 1)
-        }
-    } else {
-        ticks
-    }
-}
-
-impl Ticked {
-    // Past so many quiet ticks, and one tick more.
-    fn on(self, quiet: u32) -> Ticked
-        ensures { λ r. ⌜ r ≡ onOf self quiet ⌝ }
-    {
-        let table = self.table;
-        let wakes = self.wakes;
-        let clock = table.clock;
-        tick_at(table, wakes, clock.forward(quiet as u64 + 1))
-    }
-}
-
-// So many ticks, one after the other. Quiet ones are not walked: each turn of the loop goes to the next due moment.
+// So many ticks, one after the other.
 pub fn ticks(table: Table, count: u32) -> Outcome
     ensures { λ r. ⌜ r ≡ outcomeOf (runEffect (ticksOf count table)) ⌝ }
 {
-    let mut ticked = Ticked {
-        count: 0,
-        wakes: Wakes::none(),
-        table,
-    };
-    let mut carried: u64 = 0;
-    let mut left = count;
-    while 0 < left {
-        let passed = quiet(ticked.table, left - 1);
-        ticked = ticked.on(passed);
-        carried += ticked.count;
-        left -= passed + 1;
+    let found = table.scheduler;
+    if found.running {
+        if found.switch {
+            resting(table, count)
+        } else {
+            running_on(table, count)
+        }
+    } else {
+        resting(table, count)
     }
-    let wakes = ticked.wakes;
-    let table = ticked.table;
-    calls::with_number(table, carried, wakes)
 }

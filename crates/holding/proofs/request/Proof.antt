@@ -1,30 +1,32 @@
+use mathlib.Core.Path.{_≡_, _∙_}
+use native.Mathlib.Omega.{arith}
 use borrow.Author.Needs.{needs}
-use Rattle.calls.proofs.Obeying.{refused-by, passed-all}
-use Rattle.holding.specs.Holding.{requestOf}
+use lib.ListN.{length}
+use Rattle.common.proofs.Lists.{of-map}
+use Rattle.holding.proofs.Deciding.{asked-all}
 use Rattle.holding.proofs.request.Statement.{statement}
 use Rattle.holding.proofs.request.Tie as tie
 
-returns : tie.Need-returns
-unfolding requestOf
-returns c =
-    let made = c .before .before .before .before in
-    refused-by _ _ _ _ _ (c .refused .ensures) (rw (← made .before .process-at .ensures, ← made .caller-checked .ensures) (c .before .before .verdict .given .1))
+whole : (c : tie.Start) → length (c .args .table .processes) ≡ 12
+whole c = search (needs, of-map)
 
-returns-2 : tie.Need-returns-2
-unfolding requestOf
-returns-2 c =
-    let made = c .before .before .before in
-    passed-all _ _ _ _ (c .requested .ensures) (rw (← made .before .process-at .ensures, ← made .caller-checked .ensures) (c .before .enum-told .given .1))
+returns : tie.Need-returns
+returns c =
+    let asked = c .before .before .before .before in
+    let least = asked .before .before in
+    let start = least .before .before .before in
+    c .answered .ensures ∙ rw (c .before .none .ensures, asked .asked .ensures, least .least .ensures) (asked-all (start .args .table) (start .args .caller) (start .args .number) _ (whole start))
 
 pub request-spec : {M : Type 1} → statement M
 request-spec =
     tie.close
     (tie.spec
     (λ c κs. search needs)
+    (λ c. omega (arith, c .least .ensures))
+    (λ c. omega (arith, c .least .ensures, whole (c .before .before .before)))
     (λ c κs. search needs)
-    (λ c. search needs)
+    (λ c. omega (arith, c .before .before .before .before .least .ensures))
+    (λ c. omega (arith, c .before .before .before .before .least .ensures, whole (c .before .before .before .before .before .before .before)))
     (λ c κs. search needs)
-    (λ c. search needs)
     (λ c κs. search needs)
-    returns
-    returns-2)
+    returns)

@@ -1,48 +1,32 @@
-use mathlib.Core.Path.{_∙_, sym}
+use mathlib.Core.Path.{_≡_, _∙_}
+use native.Mathlib.Omega.{arith}
 use borrow.Author.Needs.{needs}
-use Rattle.calls.proofs.Obeying.{outcome-refuse, refused-by, passed-all}
-use Rattle.interrupts.specs.Interrupts.{awaitInterruptOf}
+use lib.ListN.{length}
+use Rattle.common.proofs.Lists.{of-map}
+use Rattle.interrupts.proofs.Deciding.{awaited-all}
 use Rattle.interrupts.proofs.await_interrupt.Statement.{statement}
 use Rattle.interrupts.proofs.await_interrupt.Tie as tie
 
+whole : (c : tie.Start) → length (c .args .table .processes) ≡ 12
+whole c = search (needs, of-map)
+
 returns : tie.Need-returns
-unfolding awaitInterruptOf
 returns c =
-    let made = c .before .before .before .before .before in
-    refused-by _ _ _ _ _ (c .refused .ensures) (rw (← made .before .process-at .ensures, ← made .caller-checked .ensures) (c .before .before .verdict .given .1))
-
-returns-2 : tie.Need-returns-2
-unfolding awaitInterruptOf
-returns-2 c =
-    let passed = c .before .before .before .before in
-    let made = passed .before .before .before in
-    passed-all _ _ _ _
-    (rw (← passed .before .before .privilege .ensures, c .before .before .privilege2 .given .1) (c .awaiting .ensures))
-    (rw (← made .before .process-at .ensures, ← made .caller-checked .ensures) (passed .enum-told .given .1))
-
-returns-3 : tie.Need-returns-3
-unfolding awaitInterruptOf
-returns-3 c =
-    let passed = c .before .before .before in
-    let made = passed .before .before .before in
-    passed-all _ _ _ _
-    (rw (← passed .before .before .privilege .ensures, c .before .enum-told2 .given .1) (c .refused2 .ensures ∙ sym (outcome-refuse _ _)))
-    (rw (← made .before .process-at .ensures, ← made .caller-checked .ensures) (passed .enum-told .given .1))
+    let least = c .before .before .before .before in
+    let start = least .before .before .before .before in
+    c .told .ensures
+    ∙ rw (c .before .before .awaited .ensures, least .least .ensures)
+    (awaited-all (start .args .table) (start .args .caller) _ (whole start))
 
 pub await-interrupt-spec : {M : Type 1} → statement M
 await-interrupt-spec =
     tie.close
     (tie.spec
     (λ c κs. search needs)
+    (λ c. omega (arith, c .least .ensures))
+    (λ c. omega (arith, c .least .ensures, whole (c .before .before .before .before)))
     (λ c κs. search needs)
+    (λ c. omega (arith, c .before .before .before .least .ensures))
+    (λ c. omega (arith, c .before .before .before .least .ensures, whole (c .before .before .before .before .before .before .before)))
     (λ c κs. search needs)
-    (λ c. search needs)
-    (λ c κs. search needs)
-    (λ c. search needs)
-    (λ c. search needs)
-    (λ c κs. search needs)
-    (λ c. search needs)
-    (λ c κs. search needs)
-    returns
-    returns-2
-    returns-3)
+    returns)

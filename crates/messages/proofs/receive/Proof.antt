@@ -1,43 +1,30 @@
+use mathlib.Core.Path.{_≡_, _∙_}
+use native.Mathlib.Omega.{arith}
 use borrow.Author.Needs.{needs}
-use Rattle.calls.proofs.Obeying.{refused-by, passed-all}
-use Rattle.messages.specs.Receiving.{receiveOf}
+use lib.ListN.{length}
+use Rattle.common.proofs.Lists.{of-map}
+use Rattle.messages.proofs.Deciding.{received-all}
 use Rattle.messages.proofs.receive.Statement.{statement}
 use Rattle.messages.proofs.receive.Tie as tie
 
-returns : tie.Need-returns
-unfolding receiveOf
-returns c =
-    let made = c .before .before .before .before in
-    refused-by _ _ _ _ _ (c .refused .ensures)
-    (rw (
-      ← made .before .before .before .before .process-at .ensures,
-      ← made .before .before .caller-checked .ensures,
-      ← made .check .ensures,
-    )
-    (c .before .before .verdict .given .1))
+whole : (c : tie.Start) → length (c .args .table .processes) ≡ 12
+whole c = search (needs, of-map)
 
-returns-2 : tie.Need-returns-2
-unfolding receiveOf
-returns-2 c =
-    let made = c .before .before .before in
-    passed-all _ _ _ _ (c .taking .ensures)
-    (rw (
-      ← made .before .before .before .before .process-at .ensures,
-      ← made .before .before .caller-checked .ensures,
-      ← made .check .ensures,
-    )
-    (c .before .enum-told .given .1))
+returns : tie.Need-returns
+returns c =
+    let least = c .before .before .before .before .least in
+    let start = c .before .before .before .before .before .before in
+    c .told .ensures ∙ rw (c .before .before .received .ensures, least .ensures) (received-all (start .args .table) (start .args .caller) _ (whole start))
 
 pub receive-spec : {M : Type 1} → statement M
 receive-spec =
     tie.close
     (tie.spec
     (λ c κs. search needs)
+    (λ c. omega (arith, c .least .ensures))
+    (λ c. omega (arith, c .least .ensures, whole (c .before .before)))
     (λ c κs. search needs)
+    (λ c. omega (arith, c .before .before .before .least .ensures))
+    (λ c. omega (arith, c .before .before .before .least .ensures, whole (c .before .before .before .before .before)))
     (λ c κs. search needs)
-    (λ c. search needs)
-    (λ c κs. search needs)
-    (λ c. search needs)
-    (λ c κs. search needs)
-    returns
-    returns-2)
+    returns)

@@ -1,6 +1,5 @@
 use mathlib.Core.Logic.{⊎-elim}
 use mathlib.Core.Path.{_≡_, _∙_, refl, ap, sym}
-use mathlib.Core.Bool.{false}
 use Prim.Native.Nat.{ℕ, _≤_, _-_}
 use native.Mathlib.Omega.{arith}
 use borrow.Author.Needs.{needs}
@@ -12,12 +11,10 @@ use Rattle.orders.specs.declared.Order.{Order}
 use Rattle.orders.specs.Orders.{standingOf}
 use Rattle.orders.specs.Advance.{dueAt, dueOf}
 use Rattle.posting.specs.declared.Origin.the-variants.{Timed}
-use Rattle.posting.specs.declared.Posting.{Posting}
 use Rattle.posting.specs.Posting.{addedOf}
 use Rattle.table.specs.Sound.{noOrder}
 use Rattle.posting.proofs.Stepping.{step-within}
 use Rattle.ticking.specs.Ticking.{letterOf, carriedOut}
-use Rattle.ticking.specs.Strides.{carriedFrom}
 use Rattle.ticking.proofs.Carrying.{carrying, carrying-due, carrying-later, carrying-whole, carries}
 use Rattle.ticking.proofs.carried_out.Statement.{statement}
 use Rattle.ticking.proofs.carried_out.Tie as tie
@@ -34,7 +31,7 @@ abbrev μ-loop : tie.MeasureT-loop
 long : (c : tie.Start Inv-loop μ-loop) → length (c .args .t2 .places) ≡ 64
 long c = search (needs, of-map)
 
-whole : (c : tie.Start Inv-loop μ-loop) → length (c .args .processes) ≡ 12
+whole : (c : tie.Start Inv-loop μ-loop) → length (c .args .begun .processes) ≡ 12
 whole c = search (needs, of-map)
 
 loop-holds : tie.Need-loop-holds Inv-loop μ-loop
@@ -68,14 +65,14 @@ loop-again c =
     )
 
 returns : tie.Need-returns Inv-loop μ-loop
-unfolding carriedFrom standingOf
+unfolding standingOf
 returns c =
-    let start = c .before .before .before in
-    let count = c .before .before .least .result in
-    let begun : Posting = record { processes = start .args .processes; wakes = start .args .wakes; full = false } in
-    walk-end (carrying (start .args .places) (start .args .now)) (c .before .loop .posting) _ (start .args .t2 .places) count (c .before .loop .at) (c .loop-test .left) (c .before .loop .inv .2)
-    ∙ carries (start .args .places) (start .args .now) begun (take count (start .args .t2 .places))
-    ∙ ap (λ (n : ℕ). addedOf begun (carriedOut (start .args .places) (dueOf (start .args .now) (take n (start .args .t2 .places))) (start .args .processes))) (c .before .before .least .ensures)
+    let args = c .before .before .before .args in
+    let most = c .before .before .least in
+    let loop = c .before .loop in
+    walk-end (carrying (args .places) (args .now)) (loop .posting) _ (args .t2 .places) (most .result) (loop .at) (c .loop-test .left) (loop .inv .2)
+    ∙ carries (args .places) (args .now) (args .begun) (take (most .result) (args .t2 .places))
+    ∙ ap (λ (n : ℕ). addedOf (args .begun) (carriedOut (args .places) (dueOf (args .now) (take n (args .t2 .places))) (args .begun .processes))) (most .ensures)
 
 pub carried-out-spec : {M : Type 1} → statement M
 carried-out-spec =
