@@ -1,17 +1,14 @@
 -- What is decided on the parts of a table comes to what the call does. Assumes nothing.
-use mathlib.Core.Path.{_≡_, _∙_, refl, ap}
+use mathlib.Core.Path.{_≡_}
 use mathlib.Core.List.{[], _∷_, map}
 use Prim.Native.Nat.{ℕ, min}
-use native.Mathlib.Omega.{arith}
 use lib.Dec.{eqb}
 use lib.ListN.{length, getD, set}
 use lib.Seq.{set-getD}
 use Rattle.common.specs.Choice.{pick}
 use Rattle.common.specs.Packing.{packedOf}
 use Rattle.common.proofs.Cases.{by-test}
-use Rattle.common.proofs.Lists.{getD-within}
 use Rattle.process.specs.declared.Process.{Process}
-use Rattle.process.specs.Process.{freshOf}
 use Rattle.semaphores.specs.declared.Requested.{Requested}
 use Rattle.semaphores.specs.declared.Requested.the-variants.{Unusable, Held, Waits}
 use Rattle.semaphores.specs.declared.Released.{Released}
@@ -23,16 +20,15 @@ use Rattle.table.specs.declared.answers.Answer.{Answer}
 use Rattle.table.specs.declared.answers.Answer.the-variants.{Ok, NoUser}
 use Rattle.table.specs.declared.Outcome.{Outcome}
 use Rattle.table.specs.declared.Table.{Table}
-use Rattle.table.specs.Configuration.{configuredOf}
 use Rattle.table.specs.Wakes.{noWakesOf, wakesOf}
 use Rattle.table.specs.Words.{minusOne}
-use Rattle.table.proofs.Configured.{configured-level}
 use Rattle.calls.specs.declared.Verdict.{Verdict}
 use Rattle.calls.specs.declared.Verdict.the-variants.{Passed, Refused}
 use Rattle.calls.specs.Effects.{waking, outcomeOf}
 use Rattle.calls.specs.Levels.{processAt, processOf, withProcesses, withSemaphores}
 use Rattle.calls.specs.Outcomes.{answeredOf}
 use Rattle.calls.specs.Verdicts.{alsoOf, obeyed, byCaller}
+use Rattle.calls.proofs.Deciding.{own-or-other}
 use Rattle.calls.proofs.Obeying.{outcome-alone, outcome-waking}
 use Rattle.holding.specs.declared.AfterRequest.{AfterRequest}
 use Rattle.holding.specs.declared.AfterRelease.{AfterRelease}
@@ -64,16 +60,12 @@ module _ (t : Table) (at : ℕ) where
 -- the record that is looked at is the caller's own, or it makes no difference
 module _ (t : Table) (caller number : ℕ) (other : Process) (whole : length (t .processes) ≡ 12) where
   pub asked-all : askedAt t (min caller 11) (askedOf (t .config) (getD (t .processes) (min caller 11) other) (t .semaphores) caller number) ≡ outcomeOf (requestOf t caller number)
-  unfolding requestOf askedOf processAt
+  unfolding requestOf askedOf
   asked-all =
-      by-test (configuredOf (t .config) caller)
-      (λ configured.
-      let own : min caller 11 ≡ caller = omega (arith, configured-level (t .config) caller configured) in
-      let same : getD (t .processes) caller other ≡ processOf t caller = getD-within (t .processes) caller other freshOf (omega (arith, configured-level (t .config) caller configured)) in
-      ap (λ (at : ℕ). askedAt t at (askedOf (t .config) (getD (t .processes) at other) (t .semaphores) caller number)) own
-      ∙ ap (λ (p : Process). askedAt t caller (askedOf (t .config) p (t .semaphores) caller number)) same
-      ∙ asked-by t caller (byCaller (t .config) (processOf t caller) caller) number)
-      (λ nobody. unfold alsoOf obeyed in rw (nobody, set-getD) (outcome-alone _ _))
+      own-or-other t caller other whole
+      (λ at p. askedAt t at (askedOf (t .config) p (t .semaphores) caller number) ≡ outcomeOf (requestOf t caller number))
+      (asked-by t caller (byCaller (t .config) (processOf t caller) caller) number)
+      (λ nobody at. unfold alsoOf obeyed in rw (nobody, set-getD) (outcome-alone _ _))
 
 -- ---- a release
 
@@ -114,13 +106,9 @@ module _ (t : Table) where
 
 module _ (t : Table) (caller number : ℕ) (other : Process) (whole : length (t .processes) ≡ 12) where
   pub given-all : givenAt t (givenOf (t .config) (getD (t .processes) (min caller 11) other) (t .semaphores) caller number) ≡ outcomeOf (releaseOf t caller number)
-  unfolding releaseOf givenOf processAt
+  unfolding releaseOf givenOf
   given-all =
-      by-test (configuredOf (t .config) caller)
-      (λ configured.
-      let own : min caller 11 ≡ caller = omega (arith, configured-level (t .config) caller configured) in
-      let same : getD (t .processes) caller other ≡ processOf t caller = getD-within (t .processes) caller other freshOf (omega (arith, configured-level (t .config) caller configured)) in
-      ap (λ (at : ℕ). givenAt t (givenOf (t .config) (getD (t .processes) at other) (t .semaphores) caller number)) own
-      ∙ ap (λ (p : Process). givenAt t (givenOf (t .config) p (t .semaphores) caller number)) same
-      ∙ given-by t (byCaller (t .config) (processOf t caller) caller) caller number)
-      (λ nobody. unfold alsoOf obeyed in rw nobody (given-none t NoUser (t .semaphores)))
+      own-or-other t caller other whole
+      (λ at p. givenAt t (givenOf (t .config) p (t .semaphores) caller number) ≡ outcomeOf (releaseOf t caller number))
+      (given-by t (byCaller (t .config) (processOf t caller) caller) caller number)
+      (λ nobody at. unfold alsoOf obeyed in rw nobody (given-none t NoUser (t .semaphores)))
