@@ -1,6 +1,4 @@
 -- What a call decides that changes one process's record alone, and how a table takes it.
-use mathlib.Core.Path.{_≡_}
-use mathlib.Core.List.{List, _∷_}
 use Prim.Native.Nat.{ℕ}
 use Rattle.process.specs.declared.Process.{Process}
 use Rattle.table.specs.declared.answers.Answer.{Answer}

@@ -1,6 +1,6 @@
 -- What is decided on the parts of a table comes to what the call does. Assumes nothing.
 use mathlib.Core.Path.{_≡_}
-use mathlib.Core.List.{[], _∷_, map}
+use mathlib.Core.List.{[], map}
 use Prim.Native.Nat.{ℕ, min}
 use lib.Dec.{eqb}
 use lib.ListN.{length, getD, set}

@@ -17,7 +17,7 @@ use Rattle.table.specs.declared.Table.{Table}
 use Rattle.table.specs.Wakes.{noWakesOf}
 use Rattle.calls.specs.declared.Decided.{Decided}
 use Rattle.calls.specs.Decisions.{decided, toldOf, decidedAt}
-use Rattle.calls.specs.Effects.{Effect, nothing, suspended, outcomeOf}
+use Rattle.calls.specs.Effects.{nothing, suspended, outcomeOf}
 use Rattle.calls.specs.Levels.{processOf, moving}
 use Rattle.calls.specs.Verdicts.{check}
 use Rattle.calls.proofs.Deciding.{decided-call}
