@@ -1,9 +1,10 @@
 //! The logs of the benchmark. Fixed seeds make them, so that two runs on two days measure the same work.
 
 use crate::writer::{outside, Writer};
+use rtms_tests::executive::configuration::LARGEST_POOL;
 use rtms_tests::executive::time::DAY;
 use rtms_tests::generator;
-use rtms_tests::log::{self, kind, Record, MOST_RECORDS, WAITING};
+use rtms_tests::log::{self, kind, Record, MOST_DATA, MOST_RECORDS, WAITING};
 use rtms_tests::run::{run, Run};
 
 /// The generator's first full log from this seed on is the one with calls of all kinds.
@@ -11,9 +12,13 @@ const MIXED: u64 = 1;
 const MESSAGES: u64 = 2;
 const SEMAPHORES: u64 = 3;
 const ORDERS: u64 = 4;
+const POOL: u64 = 5;
 
 /// As many processes as there may be.
 const MOST_PROCESSES: i16 = 11;
+
+/// The pool's size where nobody uses it.
+const NO_POOL: u16 = 0;
 
 const HOUR: u32 = 3_600_000;
 
@@ -38,6 +43,7 @@ pub fn all() -> Vec<Subject> {
         subject("mixed calls", mixed()),
         subject("only messages", messages()),
         subject("only semaphores", semaphores()),
+        subject("only the pool", pool()),
     ];
     for (name, ticks) in [("86,400,000", DAY), ("4,294,967,295", u32::MAX)] {
         for (orders, what) in [(0, "no order"), (1, "1 hourly order"), (64, "64 hourly orders")] {
@@ -68,7 +74,7 @@ fn mixed() -> Option<Vec<Record>> {
 
 /// Sends, receipts and waits. The last READY process wakes the others instead of waiting too.
 fn messages() -> Option<Vec<Record>> {
-    let mut writer = Writer::new(MESSAGES, MOST_PROCESSES)?;
+    let mut writer = Writer::new(MESSAGES, MOST_PROCESSES, NO_POOL)?;
     while !writer.is_full() {
         let caller = writer.ready_caller();
         let level = i16::from(writer.level());
@@ -93,7 +99,7 @@ const NUMBERS: [i16; 4] = [0, 31, 51, 95];
 /// Requests and releases. Each process asks only for numbers above those that it holds, so that no two wait for each
 /// other and one is always READY.
 fn semaphores() -> Option<Vec<Record>> {
-    let mut writer = Writer::new(SEMAPHORES, MOST_PROCESSES)?;
+    let mut writer = Writer::new(SEMAPHORES, MOST_PROCESSES, NO_POOL)?;
     while !writer.is_full() {
         let caller = writer.ready_caller();
         let held: Vec<i16> = writer.executive.held_by(caller).into_iter().map(i16::from).collect();
@@ -109,9 +115,39 @@ fn semaphores() -> Option<Vec<Record>> {
     Some(writer.records)
 }
 
+/// INITPOOL, POOLCHECK, a put of 16 bytes and a get of 16 to 256 bytes in turn, by one process after the other. All
+/// state the same length.
+fn pool() -> Option<Vec<Record>> {
+    let mut writer = Writer::new(POOL, MOST_PROCESSES, LARGEST_POOL)?;
+    while !writer.is_full() {
+        let call = Record { caller: writer.ready_caller(), ..Record::default() };
+        let message = writer.message();
+        let turn = [
+            Record { kind: kind::INITPOOL, ..call },
+            Record { kind: kind::POOLCHECK, first_parameter: LARGEST_POOL as i16, ..call },
+            Record { kind: kind::PUTPOOL, message, ..part(&mut writer, call, i64::from(MOST_DATA)) },
+            Record { kind: kind::GETPOOL, ..part(&mut writer, call, LONGEST_GET) },
+        ];
+        for record in turn.into_iter().take(MOST_RECORDS - writer.records.len()) {
+            writer.add(record);
+        }
+    }
+    Some(writer.records)
+}
+
+/// The longest part that a get of the benchmark asks for.
+const LONGEST_GET: i64 = 256;
+
+/// The call with a part of the pool, of 16 bytes or more up to so many.
+fn part(writer: &mut Writer, call: Record, longest: i64) -> Record {
+    let length = writer.random.between(i64::from(MOST_DATA), longest);
+    let offset = writer.random.between(0, i64::from(LARGEST_POOL) - length);
+    Record { first_parameter: offset as i16, amount: length as u32, second_parameter: length as i16, ..call }
+}
+
 /// Orders of one process for itself, without end, first in an hour and then every hour; and one run of ticks.
 fn ticking(orders: usize, ticks: u32) -> Option<Vec<Record>> {
-    let mut writer = Writer::new(ORDERS, 1)?;
+    let mut writer = Writer::new(ORDERS, 1, NO_POOL)?;
     writer.add(outside(kind::START_SCHEDULER));
     let caller = writer.ready_caller();
     let order = Record { kind: kind::SCHEDULE, caller, amount: HOUR, ..Record::default() };

@@ -15,7 +15,7 @@ pub struct Writer {
     pub records: Vec<Record>,
 }
 
-fn configuration(processes: i16) -> Configuration {
+fn configuration(processes: i16, pool_size: u16) -> Configuration {
     Configuration {
         lowest: 1,
         processes,
@@ -24,6 +24,7 @@ fn configuration(processes: i16) -> Configuration {
         order_places: 64,
         card: 8,
         clock: 0,
+        pool_size,
         privileged: Vec::new(),
     }
 }
@@ -34,9 +35,9 @@ pub fn outside(kind: u8) -> Record {
 }
 
 impl Writer {
-    /// So many processes, all of them started; nothing if there cannot be so many.
-    pub fn new(seed: u64, processes: i16) -> Option<Writer> {
-        let configuration = configuration(processes);
+    /// So many processes, all of them started, and a pool of this size; nothing if there cannot be so many.
+    pub fn new(seed: u64, processes: i16, pool_size: u16) -> Option<Writer> {
+        let configuration = configuration(processes, pool_size);
         let records = vec![configuration.to_record()];
         let executive = Executive::fresh(configuration).ok()?;
         let mut writer = Writer { random: Random::new(seed, STREAM), executive, records };

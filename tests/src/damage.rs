@@ -1,11 +1,12 @@
 //! Ways to damage a log. With the trailer made right again the damage is often a good log still: the model decides.
 
 mod fields;
+mod pool;
 mod whole;
 
 use crate::effort;
 use crate::generator;
-use crate::log::{trailer, RECORD_LENGTH, TRAILER_LENGTH};
+use crate::log::{trailer, Record, RECORD_LENGTH, TRAILER_LENGTH};
 use crate::random::Random;
 
 /// Keeps the random numbers of the damage apart from those of good logs.
@@ -14,7 +15,7 @@ const STREAM: u64 = 2;
 type Way = fn(Vec<u8>, &mut Random) -> Vec<u8>;
 
 /// Every way with its name.
-pub const WAYS: [(&str, Way); 31] = [
+pub const WAYS: [(&str, Way); 36] = [
     ("one byte changed", whole::byte_changed),
     ("one byte changed, trailer mended", whole::byte_changed_and_mended),
     ("one bit flipped", whole::bit_flipped),
@@ -46,6 +47,11 @@ pub const WAYS: [(&str, Way); 31] = [
     ("zero ticks", fields::zero_ticks),
     ("wrong caller byte", fields::caller),
     ("privileged places", fields::privileged_places),
+    ("unknown kind, no field set", fields::unknown_kind),
+    ("PUTPOOL longer than its place", pool::longer_than_its_place),
+    ("PUTPOOL byte past its length", pool::past_its_length),
+    ("unused field of a pool call set", pool::unused_field),
+    ("another pool size", pool::size),
 ];
 
 pub struct Damaged {
@@ -90,6 +96,16 @@ fn mended(log: Vec<u8>) -> Vec<u8> {
 
 fn number_of_records(log: &[u8]) -> usize {
     log.len().saturating_sub(TRAILER_LENGTH) / RECORD_LENGTH
+}
+
+/// The log with one more record, somewhere after record 0, and the index of that record.
+fn with_record(log: Vec<u8>, record: Record, random: &mut Random) -> (Vec<u8>, usize) {
+    let mut body = body(log);
+    let number = body.len() / RECORD_LENGTH;
+    let index = (1 + random.index(number)).min(number);
+    let place = index * RECORD_LENGTH;
+    body.splice(place..place, record.to_bytes());
+    (with_trailer(body), index)
 }
 
 /// Sets a byte, if the log is so long.

@@ -8,6 +8,7 @@ mod configurations;
 mod inputs;
 mod orders;
 mod parameters;
+mod pool;
 mod semaphores;
 
 use crate::effort;
@@ -65,7 +66,7 @@ impl Generator {
     fn new(mut random: Random, configuration: Configuration) -> Option<Generator> {
         let executive = Executive::fresh(configuration).ok()?;
         let weights = calls::weights(&mut random);
-        let semaphores = semaphores::pool(&mut random);
+        let semaphores = semaphores::some_usable(&mut random);
         Some(Generator { random, executive, weights, semaphores, effort_left: effort::MOST })
     }
 
@@ -95,7 +96,7 @@ impl Generator {
         by_order || !self.open_inputs().is_empty()
     }
 
-    /// Most logs begin with the start of most processes and of the scheduler.
+    /// Most logs begin with the start of most processes and of the scheduler, and some with the use of the pool.
     fn opening(&mut self) -> Vec<Record> {
         let mut opening = Vec::new();
         if self.random.chance(88) {
@@ -109,6 +110,9 @@ impl Generator {
         if self.random.chance(75) {
             let place = self.random.index(opening.len() + 1);
             opening.insert(place, outside(kind::START_SCHEDULER));
+        }
+        if self.random.chance(40) {
+            opening.extend(self.first_users_of_pool());
         }
         opening
     }

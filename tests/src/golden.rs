@@ -16,7 +16,12 @@ fn with_path<E: std::fmt::Display>(path: &Path) -> impl Fn(E) -> String + '_ {
     move |error| format!("{}: {error}", path.display())
 }
 
-/// The files of the folder with this extension, by name.
+/// The number at the beginning of a file's name: 100 comes after 99 and not after 10.
+fn number(path: &Path) -> Option<u32> {
+    path.file_name()?.to_str()?.split('-').next()?.parse().ok()
+}
+
+/// The files of the folder with this extension, by number and name.
 fn files(folder: &Path, extension: &str) -> Result<Vec<PathBuf>, String> {
     let mut paths = Vec::new();
     for entry in fs::read_dir(folder).map_err(with_path(folder))? {
@@ -25,7 +30,7 @@ fn files(folder: &Path, extension: &str) -> Result<Vec<PathBuf>, String> {
             paths.push(path);
         }
     }
-    paths.sort();
+    paths.sort_by_key(|path| (number(path), path.clone()));
     Ok(paths)
 }
 

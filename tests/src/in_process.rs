@@ -10,9 +10,9 @@ extern "C" {
     fn rtms_listing(log: *const u8, log_length: usize, out: *mut u8, out_length: usize) -> usize;
 }
 
-/// More than the listing of any log: 2,047 records, of which each has at most a line of some hundred input numbers
-/// or twelve lines with a message.
-const LONGEST_LISTING: usize = 4 << 20;
+/// More than the listing of any log: 2,047 records, of which each has at most a line with the 4,096 bytes of a pool, a
+/// line of some hundred input numbers or twelve lines with a message.
+const LONGEST_LISTING: usize = 20 << 20;
 
 /// Room for every listing. Making it takes longer than a short listing, so whoever measures keeps it.
 pub fn room() -> Vec<u8> {

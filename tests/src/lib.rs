@@ -7,6 +7,7 @@ pub mod comparison;
 pub mod coverage;
 pub mod damage;
 pub mod difference;
+mod digits;
 pub mod effort;
 pub mod executive;
 pub mod generator;

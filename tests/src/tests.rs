@@ -4,6 +4,7 @@ mod case;
 mod coverage;
 mod form;
 mod golden;
+mod pool;
 mod robust;
 mod settled;
 mod speed;

@@ -5,7 +5,7 @@
 //! `{ }` may come up to three times, `|` separates choices.
 //!
 //! ```text
-//! configuration lowest L processes P scheduler LEVEL places NP orders A card TYPE clock CLOCK
+//! configuration lowest L processes P scheduler LEVEL places NP orders A card TYPE clock CLOCK [pool SIZE]
 //!               {privileged LEVEL inputs FIRST..LAST}    (one line; the first record, and only the first)
 //! start LEVEL priority NUMBER
 //! start-scheduler
@@ -28,17 +28,24 @@
 //! CALLER REQSEMA NUMBER
 //! CALLER RELSEMA NUMBER|all
 //! CALLER READTIME
+//! CALLER INITPOOL
+//! CALLER POOLCHECK LENGTH
+//! CALLER GETPOOL at OFFSET length LENGTH into LENGTH
+//! CALLER PUTPOOL at OFFSET length LENGTH data DATA
 //! ```
 //!
 //! - CALLER is the caller's byte, 0 to 255.
-//! - A parameter (LEVEL to start, of a receiver or a sender, INPUT, NUMBER, COUNT, L, P) is a number from -32768 to
-//!   32767, whatever the call makes of it; `all` and `any` are -1. TO is a number from -2147483648 to 2147483647. The
-//!   other numbers of a configuration are 0 to 255 (a privileged LEVEL 0 to 254).
+//! - A parameter (LEVEL to start, of a receiver or a sender, INPUT, NUMBER, COUNT, OFFSET, LENGTH, L, P) is a number
+//!   from -32768 to 32767, whatever the call makes of it; `all` and `any` are -1. TO is a number from -2147483648 to
+//!   2147483647. The LENGTH after `into`, the caller's own, is 0 to 4294967295. SIZE is 0 to 65535, and 0 without
+//!   `pool`. The other numbers of a configuration are 0 to 255 (a privileged LEVEL 0 to 254).
 //! - TIME is HH:MM:SS.mmm with two, two, two and three digits or more, as far as a byte, and two bytes for the
 //!   milliseconds, go: `24:00:00.000` is a time that SCHEDULE refuses. CLOCK is such a time, but within a day, or a
 //!   number of milliseconds from 0 to 4294967295.
 //! - MESSAGE is 1 to 16 bytes, filled with zeros on the right: an even number of hexadecimal digits, or up to 16
 //!   printable ASCII characters without `"` in double quotes.
+//! - DATA is 0 to 16 bytes, written as a MESSAGE is but not filled: how many they are is the caller's length. No byte
+//!   at all is `""`.
 //! - `with-time` gives the four time fields that a relative order carries and nobody looks at; without it they are 0.
 //! - Numbers are decimal, without plus and without leading zeros.
 //!

@@ -15,6 +15,7 @@ use Rattle.day.specs.declared.TimeOfDay.{TimeOfDay}
 use Rattle.day.specs.TimeOfDay.{day}
 use Rattle.inputs.specs.declared.InputSet.{InputSet}
 use Rattle.orders.specs.declared.Orders.{Orders}
+use Rattle.pool.specs.declared.Control.{Control}
 use Rattle.process.specs.declared.Process.{Process}
 use Rattle.process.specs.declared.states.State.the-variants.{Ready, WaitingForSemaphore}
 use Rattle.process.specs.Process.{freshOf}
@@ -27,12 +28,12 @@ use Rattle.table.specs.declared.configs.Config.{Config}
 use Rattle.table.specs.declared.Scheduler.{Scheduler}
 use Rattle.table.specs.declared.Table.{Table}
 use Rattle.table.specs.Configuration.{configuredOf}
-use Rattle.table.specs.Sound.{processWithin, noneKept, queuedAsItWaits, levelSound, noProcess, levelsSound, ordersSound, onCard}
+use Rattle.table.specs.Sound.{processWithin, noneKept, queuedAsItWaits, levelSound, noProcess, levelsSound, ordersSound, onCard, poolSound}
 use Rattle.table.proofs.Parts.{SoundParts}
 use Rattle.calls.specs.declared.Verdict.{Verdict}
 use Rattle.calls.specs.declared.Verdict.the-variants.{Passed, Refused}
 use Rattle.calls.specs.Effects.{Effect}
-use Rattle.calls.specs.Levels.{processAt, withProcesses, withClock, withScheduler, withOrders, withMask, withLatch}
+use Rattle.calls.specs.Levels.{processAt, withProcesses, withClock, withScheduler, withOrders, withMask, withLatch, withPool}
 use Rattle.calls.specs.Verdicts.{Check, check, alsoOf, after, obeyed, byCaller}
 use Rattle.calls.proofs.Obeying.{last-passed}
 
@@ -56,8 +57,8 @@ keeps-obeyed (Refused answer) t effect steady keeps = steady
 -- ---- a table with one part changed
 
 -- a table with other parts, and the configuration and the semaphores that it has
-abbrev changed : Table → TimeOfDay → Scheduler → List Process → Orders → InputSet → InputSet → Table
-changed t clock scheduler processes orders mask latch = record {
+abbrev changed : Table → TimeOfDay → Scheduler → List Process → Orders → InputSet → InputSet → Control → Table
+changed t clock scheduler processes orders mask latch pool = record {
   config = t .config;
   clock = clock;
   scheduler = scheduler;
@@ -66,18 +67,20 @@ changed t clock scheduler processes orders mask latch = record {
   semaphores = t .semaphores;
   mask = mask;
   latch = latch;
+  pool = pool;
 }
 
 module _ (t : Table) where
   -- each part is looked at alone, but the levels together with the queue
-  steady-changed : (clock : TimeOfDay) (scheduler : Scheduler) (ps : List Process) (orders : Orders) (mask latch : InputSet) → Steady t
+  steady-changed : (clock : TimeOfDay) (scheduler : Scheduler) (ps : List Process) (orders : Orders) (mask latch : InputSet) (pool : Control) → Steady t
       → ltb (clock .milliseconds) day ≡ true
       → (length ps ≡ 12) × (levelsSound (t .config) (t .semaphores .queue) ps ≡ true)
       → (length (orders .places) ≡ 64) × (ordersSound (t .config) orders ≡ true)
       → onCard (t .config) mask ≡ true
       → onCard (t .config) latch ≡ true
-      → Steady (changed t clock scheduler ps orders mask latch)
-  steady-changed clock scheduler ps orders mask latch steady within levels ordered masked latched = record {
+      → poolSound (t .config) pool ≡ true
+      → Steady (changed t clock scheduler ps orders mask latch pool)
+  steady-changed clock scheduler ps orders mask latch pool steady within levels ordered masked latched pooled = record {
     processes = levels .0;
     places = ordered .0;
     parts = record {
@@ -89,6 +92,7 @@ module _ (t : Table) where
       queue = steady .parts .queue;
       mask = masked;
       latch = latched;
+      pool = pooled;
     };
     orderly = steady .orderly;
   }
@@ -103,39 +107,45 @@ module _ (t : Table) where
   -- another word of the scheduler
   pub steady-scheduler : (s : Scheduler) → Steady t → Steady (withScheduler t s)
   steady-scheduler s steady =
-      steady-changed (t .clock) s (t .processes) (t .orders) (t .mask) (t .latch) steady
-      (steady .parts .clock) (levels-of steady) (orders-of steady) (steady .parts .mask) (steady .parts .latch)
+      steady-changed (t .clock) s (t .processes) (t .orders) (t .mask) (t .latch) (t .pool) steady
+      (steady .parts .clock) (levels-of steady) (orders-of steady) (steady .parts .mask) (steady .parts .latch) (steady .parts .pool)
 
   -- another time of day
   pub steady-clock : (now : TimeOfDay) → Steady t → ltb (now .milliseconds) day ≡ true → Steady (withClock t now)
   steady-clock now steady within =
-      steady-changed now (t .scheduler) (t .processes) (t .orders) (t .mask) (t .latch) steady
-      within (levels-of steady) (orders-of steady) (steady .parts .mask) (steady .parts .latch)
+      steady-changed now (t .scheduler) (t .processes) (t .orders) (t .mask) (t .latch) (t .pool) steady
+      within (levels-of steady) (orders-of steady) (steady .parts .mask) (steady .parts .latch) (steady .parts .pool)
 
   -- another mask of the card
   pub steady-mask : (m : InputSet) → Steady t → onCard (t .config) m ≡ true → Steady (withMask t m)
   steady-mask m steady card =
-      steady-changed (t .clock) (t .scheduler) (t .processes) (t .orders) m (t .latch) steady
-      (steady .parts .clock) (levels-of steady) (orders-of steady) card (steady .parts .latch)
+      steady-changed (t .clock) (t .scheduler) (t .processes) (t .orders) m (t .latch) (t .pool) steady
+      (steady .parts .clock) (levels-of steady) (orders-of steady) card (steady .parts .latch) (steady .parts .pool)
 
   -- another latch of the card
   pub steady-latch : (m : InputSet) → Steady t → onCard (t .config) m ≡ true → Steady (withLatch t m)
   steady-latch m steady card =
-      steady-changed (t .clock) (t .scheduler) (t .processes) (t .orders) (t .mask) m steady
-      (steady .parts .clock) (levels-of steady) (orders-of steady) (steady .parts .mask) card
+      steady-changed (t .clock) (t .scheduler) (t .processes) (t .orders) (t .mask) m (t .pool) steady
+      (steady .parts .clock) (levels-of steady) (orders-of steady) (steady .parts .mask) card (steady .parts .pool)
 
   -- other sound orders, in as many places
   pub steady-orders : (o : Orders) → Steady t → length (o .places) ≡ 64 → ordersSound (t .config) o ≡ true → Steady (withOrders t o)
   steady-orders o steady whole sound =
-      steady-changed (t .clock) (t .scheduler) (t .processes) o (t .mask) (t .latch) steady
-      (steady .parts .clock) (levels-of steady) (whole, sound) (steady .parts .mask) (steady .parts .latch)
+      steady-changed (t .clock) (t .scheduler) (t .processes) o (t .mask) (t .latch) (t .pool) steady
+      (steady .parts .clock) (levels-of steady) (whole, sound) (steady .parts .mask) (steady .parts .latch) (steady .parts .pool)
 
   -- other processes, as many, that are sound with the queue as it is
   pub steady-processes : (ps : List Process) → Steady t → length ps ≡ 12 → levelsSound (t .config) (t .semaphores .queue) ps ≡ true
       → Steady (withProcesses t ps)
   steady-processes ps steady whole sound =
-      steady-changed (t .clock) (t .scheduler) ps (t .orders) (t .mask) (t .latch) steady
-      (steady .parts .clock) (whole, sound) (orders-of steady) (steady .parts .mask) (steady .parts .latch)
+      steady-changed (t .clock) (t .scheduler) ps (t .orders) (t .mask) (t .latch) (t .pool) steady
+      (steady .parts .clock) (whole, sound) (orders-of steady) (steady .parts .mask) (steady .parts .latch) (steady .parts .pool)
+
+  -- other users of the pool, whose lengths are within its size
+  pub steady-pool : (pool : Control) → Steady t → poolSound (t .config) pool ≡ true → Steady (withPool t pool)
+  steady-pool pool steady sound =
+      steady-changed (t .clock) (t .scheduler) (t .processes) (t .orders) (t .mask) (t .latch) pool steady
+      (steady .parts .clock) (levels-of steady) (orders-of steady) (steady .parts .mask) (steady .parts .latch) sound
 
 -- ---- what checks that passed tell
 

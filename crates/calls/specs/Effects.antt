@@ -21,6 +21,8 @@ pub data Carried : Type 0 where
   message : Message → Carried
   inputs : InputSet → Carried
   number : ℕ → Carried
+  -- so many bytes of the pool
+  bytes : ℕ → Carried
 
 pub record Effect : Type 0 where
   pub answer : Answer
@@ -46,7 +48,7 @@ done t = waking Answer.Ok [] t
 abbrev pub suspended : Table → Effect
 suspended t = waking Answer.Suspended [] t
 
--- an answer that carries a message, inputs or a number, where nobody wakes
+-- an answer that carries a message, inputs, a number or bytes of the pool, where nobody wakes
 abbrev pub carrying : Answer → Carried → Table → Effect
 carrying answer carried t = record { answer = answer; carried = carried; wakes = []; table = t }
 
@@ -57,24 +59,28 @@ shownBy nothing = Shown.Nothing
 shownBy (message m) = Shown.Message
 shownBy (inputs set) = Shown.Inputs
 shownBy (number n) = Shown.Number
+shownBy (bytes n) = Shown.Data
 
 abbrev pub messageBy : Carried → Message
 messageBy nothing = zeros
 messageBy (message m) = m
 messageBy (inputs set) = zeros
 messageBy (number n) = zeros
+messageBy (bytes n) = zeros
 
 abbrev pub inputsBy : Carried → InputSet
 inputsBy nothing = emptyOf
 inputsBy (message m) = emptyOf
 inputsBy (inputs set) = set
 inputsBy (number n) = emptyOf
+inputsBy (bytes n) = emptyOf
 
 abbrev pub numberBy : Carried → ℕ
 numberBy nothing = 0
 numberBy (message m) = 0
 numberBy (inputs set) = 0
 numberBy (number n) = n
+numberBy (bytes n) = n
 
 unfoldable pub outcomeOf : Effect → Outcome
 outcomeOf e = record {

@@ -5,6 +5,7 @@ use lib.ListN.{getD, set}
 use Rattle.day.specs.declared.TimeOfDay.{TimeOfDay}
 use Rattle.inputs.specs.declared.InputSet.{InputSet}
 use Rattle.orders.specs.declared.Orders.{Orders}
+use Rattle.pool.specs.declared.Control.{Control}
 use Rattle.process.specs.declared.Process.{Process}
 use Rattle.process.specs.declared.states.Cause.{Cause}
 use Rattle.process.specs.Process.{freshOf, movedOf}
@@ -32,6 +33,7 @@ withProcesses t processes = record {
   semaphores = t .semaphores;
   mask = t .mask;
   latch = t .latch;
+  pool = t .pool;
 }
 
 abbrev pub withProcess : Table → ℕ → Process → Table
@@ -47,6 +49,7 @@ withClock t clock = record {
   semaphores = t .semaphores;
   mask = t .mask;
   latch = t .latch;
+  pool = t .pool;
 }
 
 abbrev pub withScheduler : Table → Scheduler → Table
@@ -59,6 +62,7 @@ withScheduler t scheduler = record {
   semaphores = t .semaphores;
   mask = t .mask;
   latch = t .latch;
+  pool = t .pool;
 }
 
 abbrev pub withOrders : Table → Orders → Table
@@ -71,6 +75,7 @@ withOrders t orders = record {
   semaphores = t .semaphores;
   mask = t .mask;
   latch = t .latch;
+  pool = t .pool;
 }
 
 abbrev pub withSemaphores : Table → Semaphores → Table
@@ -83,6 +88,7 @@ withSemaphores t semaphores = record {
   semaphores = semaphores;
   mask = t .mask;
   latch = t .latch;
+  pool = t .pool;
 }
 
 abbrev pub withMask : Table → InputSet → Table
@@ -95,6 +101,7 @@ withMask t mask = record {
   semaphores = t .semaphores;
   mask = mask;
   latch = t .latch;
+  pool = t .pool;
 }
 
 abbrev pub withLatch : Table → InputSet → Table
@@ -107,6 +114,20 @@ withLatch t latch = record {
   semaphores = t .semaphores;
   mask = t .mask;
   latch = latch;
+  pool = t .pool;
+}
+
+abbrev pub withPool : Table → Control → Table
+withPool t pool = record {
+  config = t .config;
+  clock = t .clock;
+  scheduler = t .scheduler;
+  processes = t .processes;
+  orders = t .orders;
+  semaphores = t .semaphores;
+  mask = t .mask;
+  latch = t .latch;
+  pool = pool;
 }
 
 -- the process at a level in the state that a cause leads to

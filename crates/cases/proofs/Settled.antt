@@ -7,6 +7,7 @@ use Rattle.common.specs.Packing.{packedOf}
 use Rattle.day.specs.Fields.{madeOf}
 use Rattle.day.specs.TimeOfDay.{forwardOf, untilOf}
 use Rattle.inputs.specs.InputSet.{bitOf, wordOf, hasOf, setOf, emptyOf as noInputs, exceptOf, runOf, risingOf, membersOf, countOf}
+use Rattle.pool.specs.Control.{freshOf as freshPool}
 use Rattle.process.specs.States.{nextOf}
 use Rattle.process.specs.Messages.{emptyOf as emptyBuffer, putOf}
 use Rattle.process.specs.Process.{movedOf, storedOf, deliverOf}
@@ -16,7 +17,7 @@ use Rattle.orders.specs.Moments.{intervalOf, delayOf}
 use Rattle.orders.specs.Orders.{standingOf, ordersOf, noneOf, pushOf, acceptOf}
 use Rattle.orders.specs.Cancel.{isFrom, matchesOf, howManyOf, removedOf, cancelOf}
 use Rattle.table.specs.Configuration.{configuredOf, inputsOf, goodOf, receiverOf, senderOf}
-use Rattle.table.specs.Sound.{timesOf, levelSound, levelsSound, orderSound, ordersSound, holderSound, holdersSound, queueSound, onCard, soundOf}
+use Rattle.table.specs.Sound.{timesOf, levelSound, levelsSound, orderSound, ordersSound, holderSound, holdersSound, queueSound, onCard, lengthsSound, poolSound, soundOf}
 use Rattle.table.specs.Table.{freshOf}
 use Rattle.calls.specs.Effects.{outcomeOf}
 use Rattle.calls.specs.Levels.{processAt}
@@ -29,5 +30,5 @@ use Rattle.rtms.specs.Calls.{guardedOf, answerOf}
 use Rattle.cases.specs.Cases.{holds, settled}
 
 pub settled-all : every holds settled ≡ true
-unfolding everyBelow keepOf packedOf madeOf forwardOf untilOf bitOf wordOf hasOf setOf noInputs exceptOf runOf risingOf membersOf countOf nextOf emptyBuffer putOf movedOf storedOf deliverOf listOf queued emptyQueue usableOf freshSemaphores intervalOf delayOf standingOf ordersOf noneOf pushOf acceptOf isFrom matchesOf howManyOf removedOf cancelOf configuredOf inputsOf goodOf receiverOf senderOf timesOf levelSound levelsSound orderSound ordersSound holderSound holdersSound queueSound onCard soundOf freshOf outcomeOf processAt alsoOf obeyed startOf markedBy oneOf allOf sendPosted sentOf sendOf momentOf ordered scheduleOf cancelledOf cancelScheduleOf guardedOf answerOf
+unfolding everyBelow keepOf packedOf madeOf forwardOf untilOf bitOf wordOf hasOf setOf noInputs exceptOf runOf risingOf membersOf countOf nextOf emptyBuffer putOf movedOf storedOf deliverOf listOf queued emptyQueue usableOf freshSemaphores intervalOf delayOf standingOf ordersOf noneOf pushOf acceptOf isFrom matchesOf howManyOf removedOf cancelOf configuredOf inputsOf goodOf receiverOf senderOf timesOf levelSound levelsSound orderSound ordersSound holderSound holdersSound queueSound onCard lengthsSound poolSound soundOf freshPool freshOf outcomeOf processAt alsoOf obeyed startOf markedBy oneOf allOf sendPosted sentOf sendOf momentOf ordered scheduleOf cancelledOf cancelScheduleOf guardedOf answerOf
 settled-all = refl

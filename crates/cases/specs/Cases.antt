@@ -71,7 +71,7 @@ refused BadSecond = true
 refused BadMinute = true
 refused BadHour = true
 
--- L, P, the scheduler and the clock; NP 1, four order places, card 8 and nobody privileged
+-- L, P, the scheduler and the clock; NP 1, four order places, card 8, nobody privileged and a pool of four bytes
 abbrev plant : ℕ → ℕ → ℕ → TimeOfDay → Config
 plant lowest processes scheduler clock = record {
   lowest = lowest;
@@ -82,6 +82,7 @@ plant lowest processes scheduler clock = record {
   card = 8;
   clock = clock;
   privileged = replicate 3 (record { level = 255; first = 0; last = 0 });
+  pool = 4;
 }
 
 -- levels 2 and 3, scheduler 11

@@ -1,4 +1,5 @@
-// Document 01's "Cases to settle", run: a line for each, with what is asked and what comes. (Those marked p are proved: specs/Cases.)
+// Document 01's "Cases to settle", run: a line for each, with what is asked and what comes. (Those marked p are proved: specs/Cases.) Then the pool of
+// document 02, §1, as a host lends it.
 use day::Fields;
 use day::Made;
 use day::TimeOfDay;
@@ -6,6 +7,7 @@ use orders::First;
 use process::Condition;
 use process::buffers::Message;
 use rtms::message_calls;
+use rtms::pool_calls;
 use rtms::state_calls;
 use rtms::timer_calls;
 use table::Outcome;
@@ -112,7 +114,7 @@ fn delay(clock: TimeOfDay, asked: Fields) {
     end();
 }
 
-// NP 1, four order places, card 8 and nobody privileged.
+// NP 1, four order places, card 8, nobody privileged and a pool of four bytes.
 fn plant(lowest: u16, processes: u16, scheduler: u8, clock: TimeOfDay) -> Config {
     Config {
         lowest,
@@ -123,6 +125,7 @@ fn plant(lowest: u16, processes: u16, scheduler: u8, clock: TimeOfDay) -> Config
         card: 8,
         clock,
         privileged: [NOBODY; 3],
+        pool: 4,
     }
 }
 
@@ -202,6 +205,52 @@ fn wrong_sender() {
     end();
 }
 
+// Level 2 has called INITPOOL.
+fn begun() -> Table {
+    let outcome = pool_calls::init_pool(started(TimeOfDay::MIDNIGHT), 2);
+    outcome.table
+}
+
+fn four(bytes: [u8; 4]) {
+    number(bytes[0] as u64);
+    number(bytes[1] as u64);
+    number(bytes[2] as u64);
+    number(bytes[3] as u64);
+}
+
+// Two bytes put into the middle of the pool, and all four got: the answers, and what the caller's buffer holds.
+fn put_and_get() {
+    let mut pool: [u8; 4] = [0; 4];
+    let mut buffer: [u8; 4] = [9; 4];
+    let given = [7, 8];
+    let put = pool_calls::put_pool(begun(), &mut pool, 2, 1, 2, &given);
+    let got = pool_calls::get_pool(put.table, &pool, 2, 0, 4, &mut buffer);
+    word(b"put");
+    answer(put);
+    answer(got);
+    four(buffer);
+    end();
+}
+
+// A part that begins at an offset, as long as the buffer, of a pool that is lent shorter by so many bytes: the answer, and the buffer.
+fn get_at(offset: u16, count: u16, missing: usize) {
+    let pool: [u8; 4] = [5; 4];
+    let lent: &[u8] = &pool;
+    let mut buffer: [u8; 4] = [9; 4];
+    let got = pool_calls::get_pool(
+        begun(),
+        &lent[common::least(missing, 4)..],
+        2,
+        offset,
+        count,
+        &mut buffer,
+    );
+    word(b"get");
+    answer(got);
+    four(buffer);
+    end();
+}
+
 fn at(milliseconds: u32) -> TimeOfDay {
     TimeOfDay { milliseconds }
 }
@@ -225,4 +274,10 @@ fn main() {
     config(2, 11, 0);
     second_always();
     wrong_sender();
+    put_and_get();
+    get_at(0, 4, 0);
+    get_at(0, 3, 0);
+    get_at(1, 4, 0);
+    get_at(65_535, 4, 0);
+    get_at(0, 4, 1);
 }

@@ -408,6 +408,7 @@ module _ (t : Table) (steady : Steady t) where
       queue = queue-fits (t .config) s (fits .orderly) (fits .waiting);
       mask = steady .parts .mask;
       latch = steady .parts .latch;
+      pool = steady .parts .pool;
     };
     orderly = fits .orderly;
   }

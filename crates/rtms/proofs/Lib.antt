@@ -1,3 +1,4 @@
 pub mod Guarding
 pub mod Refusing
+pub mod Pools
 pub mod Waking

@@ -51,7 +51,8 @@ use Rattle.timers.specs.Timers.{cancelAnswer, cancelling, ordered, scheduleOf, 
 use Rattle.timers.proofs.Cancels.{done-or-same}
 use Rattle.interrupts.specs.Interrupts.{enableOf, disableOf, cameOf, openOf, awaitingOf, awaitingBy, awaitInterruptOf, resetInterruptOf, openedOf, openedBy, latchedOf, eventOf}
 use Rattle.holding.specs.Holding.{requestedBy, requestedOf, requestOf, releasedBy, releasedOf, releasedAllOf, releaseOf}
-use Rattle.rtms.specs.Calls.{Call, START, SETPRIORITY, SEND, RECEIVE, AWAITMESSAGE, CLEARMESSAGE, SCHEDULE, CANCELSCHEDULE, SHUTDOWN, STARTSCHEDULER, READTIME, ENABLE, DISABLE, AWAITINTERRUPT, RESETINT, EVENT, REQSEMA, RELSEMA, TICK, TICKS, effectOf, guardedOf, doneBy}
+use Rattle.pooling.specs.Pooling.{initPoolOf, poolCheckOf, getPoolOf, putPoolOf}
+use Rattle.rtms.specs.Calls.{Call, START, SETPRIORITY, SEND, RECEIVE, AWAITMESSAGE, CLEARMESSAGE, SCHEDULE, CANCELSCHEDULE, SHUTDOWN, STARTSCHEDULER, READTIME, ENABLE, DISABLE, AWAITINTERRUPT, RESETINT, EVENT, REQSEMA, RELSEMA, INITPOOL, POOLCHECK, GETPOOL, PUTPOOL, TICK, TICKS, effectOf, guardedOf, doneBy}
 use Rattle.rtms.specs.Refusals.{Plain, always, Overflowed, Answers}
 
 -- an effect is no refusal, or it is one that is the number alone, leaves the table as it was and is not number 3
@@ -218,7 +219,7 @@ kind-always t caller receiver m effect (inl fine) = sorted fine
 kind-always t caller receiver m effect (inr full) = overflow caller receiver m full
 
 kind-of : (call : Call) (t : Table) → Kind t call (effectOf call t)
-unfolding startOf setPriorityOf receiveOf awaitMessageOf clearMessageOf scheduleOf cancelScheduleOf shutdownOf startSchedulerOf readTimeOf enableOf disableOf awaitInterruptOf resetInterruptOf eventOf requestOf releaseOf
+unfolding startOf setPriorityOf receiveOf awaitMessageOf clearMessageOf scheduleOf cancelScheduleOf shutdownOf startSchedulerOf readTimeOf enableOf disableOf awaitInterruptOf resetInterruptOf eventOf requestOf releaseOf initPoolOf poolCheckOf getPoolOf putPoolOf
 kind-of (START level priority) t = sorted (sorted-obeyed _ t _ (more _ _ _ (more _ _ _ (more _ _ _ threeless-none refl) refl) refl) (sorted-ok t _ _ _))
 kind-of (SETPRIORITY from priority) t = sorted (sorted-obeyed _ t _ (more _ _ _ (caller _ _) refl) (sorted-ok t _ _ _))
 kind-of (SEND from receiver Always m) t = kind-always t from receiver m _ (sorted-always t from receiver m)
@@ -240,6 +241,12 @@ kind-of (EVENT input) t = sorted (sorted-obeyed _ t _ (more _ _ _ threeless-none
 kind-of (REQSEMA from number) t = sorted (sorted-obeyed _ t _ (caller _ _) (sorted-request t from number))
 kind-of (RELSEMA from number) t =
     sorted (sorted-obeyed _ t _ (caller _ _) (sorted-pick (eqb number minusOne) t _ _ (sorted-all t from) (sorted-release t from number)))
+kind-of (INITPOOL from) t = sorted (sorted-obeyed _ t _ (caller _ _) (sorted-ok t _ _ _))
+kind-of (POOLCHECK from stated) t = sorted (sorted-obeyed _ t _ (more _ _ _ (more _ _ _ (caller _ _) refl) refl) (sorted-ok t _ _ _))
+kind-of (GETPOOL from offset count own) t =
+    sorted (sorted-obeyed _ t _ (more _ _ _ (more _ _ _ (more _ _ _ (more _ _ _ (caller _ _) refl) refl) refl) refl) (sorted-ok t _ _ _))
+kind-of (PUTPOOL from offset count given) t =
+    sorted (sorted-obeyed _ t _ (more _ _ _ (more _ _ _ (more _ _ _ (more _ _ _ (caller _ _) refl) refl) refl) refl) (sorted-ok t _ _ _))
 kind-of TICK t = sorted (sorted-ok t _ _ _)
 kind-of (TICKS n) t = sorted (sorted-ok t _ _ _)
 

@@ -50,7 +50,8 @@ use Rattle.ticking.specs.Ticking.{runEffect, tickOf, ticksOf}
 use Rattle.ticking.proofs.Waking.{tick-once, tick-fits, ticks-once, ticks-fit}
 use Rattle.interrupts.specs.Interrupts.{enableOf, disableOf, cameOf, openOf, awaitingOf, awaitingBy, awaitInterruptOf, resetInterruptOf, openedOf, openedBy, latchedOf, eventOf}
 use Rattle.holding.specs.Holding.{requestedBy, requestedOf, requestOf, handoverWake, releasedBy, releasedOf, releasedAllOf, releaseOf}
-use Rattle.rtms.specs.Calls.{Call, START, SETPRIORITY, SEND, RECEIVE, AWAITMESSAGE, CLEARMESSAGE, SCHEDULE, CANCELSCHEDULE, SHUTDOWN, STARTSCHEDULER, READTIME, ENABLE, DISABLE, AWAITINTERRUPT, RESETINT, EVENT, REQSEMA, RELSEMA, TICK, TICKS, effectOf, guardedOf, doneBy, answerOf}
+use Rattle.pooling.specs.Pooling.{initPoolOf, poolCheckOf, getPoolOf, putPoolOf}
+use Rattle.rtms.specs.Calls.{Call, START, SETPRIORITY, SEND, RECEIVE, AWAITMESSAGE, CLEARMESSAGE, SCHEDULE, CANCELSCHEDULE, SHUTDOWN, STARTSCHEDULER, READTIME, ENABLE, DISABLE, AWAITINTERRUPT, RESETINT, EVENT, REQSEMA, RELSEMA, INITPOOL, POOLCHECK, GETPOOL, PUTPOOL, TICK, TICKS, effectOf, guardedOf, doneBy, answerOf}
 
 -- ---- effects
 
@@ -178,7 +179,7 @@ fine-ticks n t = (ticks-once n t, ticks-fit n t)
 
 -- each call of a table that shows no break
 fine-of : (call : Call) (t : Table) → soundOf t ≡ true → Fine t (effectOf call t)
-unfolding startOf setPriorityOf sendOf receiveOf awaitMessageOf clearMessageOf scheduleOf cancelScheduleOf shutdownOf startSchedulerOf readTimeOf enableOf disableOf awaitInterruptOf resetInterruptOf eventOf requestOf releaseOf
+unfolding startOf setPriorityOf sendOf receiveOf awaitMessageOf clearMessageOf scheduleOf cancelScheduleOf shutdownOf startSchedulerOf readTimeOf enableOf disableOf awaitInterruptOf resetInterruptOf eventOf requestOf releaseOf initPoolOf poolCheckOf getPoolOf putPoolOf
 fine-of (START level priority) t sound = fine-obeyed _ t _ (fine-none t _ _ _)
 fine-of (SETPRIORITY caller priority) t sound = fine-obeyed _ t _ (fine-none t _ _ _)
 fine-of (SEND caller receiver condition m) t sound = fine-obeyed _ t _ (fine-send t (receiverOf (t .config) receiver) condition m)
@@ -198,6 +199,10 @@ fine-of (RESETINT caller input) t sound = fine-obeyed _ t _ (fine-none t _ _ _)
 fine-of (EVENT input) t sound = fine-obeyed _ t _ (fine-latched t input)
 fine-of (REQSEMA caller number) t sound = fine-obeyed _ t _ (fine-request t caller number)
 fine-of (RELSEMA caller number) t sound = fine-obeyed _ t _ (by-pick (Fine t) (eqb number minusOne) _ _ (fine-all t caller sound) (fine-release t caller number))
+fine-of (INITPOOL caller) t sound = fine-obeyed _ t _ (fine-none t _ _ _)
+fine-of (POOLCHECK caller stated) t sound = fine-obeyed _ t _ (fine-none t _ _ _)
+fine-of (GETPOOL caller offset count own) t sound = fine-obeyed _ t _ (fine-none t _ _ _)
+fine-of (PUTPOOL caller offset count given) t sound = fine-obeyed _ t _ (fine-none t _ _ _)
 fine-of TICK t sound = fine-tick t
 fine-of (TICKS n) t sound = fine-ticks n t
 

@@ -1,5 +1,7 @@
--- Every call, event and tick, under document 01's name for it, and what it does.
+-- Every call, event and tick, under the documents' name for it, and what it does.
+use mathlib.Core.List.{List}
 use Prim.Native.Nat.{ℕ}
+use lib.ListN.{length}
 use Rattle.common.specs.Choice.{pick}
 use Rattle.process.specs.declared.buffers.Message.{Message}
 use Rattle.process.specs.declared.Condition.{Condition}
@@ -16,6 +18,7 @@ use Rattle.timers.specs.Timers.{scheduleOf, cancelScheduleOf, shutdownOf, start
 use Rattle.ticking.specs.Ticking.{runEffect, tickOf, ticksOf}
 use Rattle.interrupts.specs.Interrupts.{enableOf, disableOf, awaitInterruptOf, resetInterruptOf, eventOf}
 use Rattle.holding.specs.Holding.{requestOf, releaseOf}
+use Rattle.pooling.specs.Pooling.{initPoolOf, poolCheckOf, getPoolOf, putPoolOf}
 
 -- Parameters in the order of the functions. A process's call begins with its caller; START, the start of the scheduler, events and ticks have none.
 pub data Call : Type 0 where
@@ -46,6 +49,13 @@ pub data Call : Type 0 where
   -- caller, number
   REQSEMA : ℕ → ℕ → Call
   RELSEMA : ℕ → ℕ → Call
+  INITPOOL : ℕ → Call
+  -- caller, length
+  POOLCHECK : ℕ → ℕ → Call
+  -- caller, offset, the part's length, how many bytes the caller's own buffer has
+  GETPOOL : ℕ → ℕ → ℕ → ℕ → Call
+  -- caller, offset, the part's length, the caller's own data
+  PUTPOOL : ℕ → ℕ → ℕ → List ℕ → Call
   TICK : Call
   -- how many
   TICKS : ℕ → Call
@@ -70,6 +80,10 @@ effectOf (RESETINT caller input) t = resetInterruptOf t caller input
 effectOf (EVENT input) t = eventOf t input
 effectOf (REQSEMA caller number) t = requestOf t caller number
 effectOf (RELSEMA caller number) t = releaseOf t caller number
+effectOf (INITPOOL caller) t = initPoolOf t caller
+effectOf (POOLCHECK caller stated) t = poolCheckOf t caller stated
+effectOf (GETPOOL caller offset count own) t = getPoolOf t caller offset count own
+effectOf (PUTPOOL caller offset count given) t = putPoolOf t caller offset count (length given)
 effectOf TICK t = runEffect (tickOf t)
 effectOf (TICKS n) t = runEffect (ticksOf n t)
 

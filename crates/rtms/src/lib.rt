@@ -2,6 +2,7 @@
 // refused before all else, with 35, and left as it is. A module for each section of document 01.
 pub mod input_calls;
 pub mod message_calls;
+pub mod pool_calls;
 pub mod semaphore_calls;
 pub mod state_calls;
 pub mod timer_calls;

@@ -37,7 +37,7 @@ use Rattle.calls.proofs.Keeping.{Steady, level-at}
 use Rattle.holding.specs.Holding.{requestedBy, requestedOf, requestOf, releasedBy, releasedOf, releasedAllOf, releaseOf}
 use Rattle.calls.proofs.Changing.{state-known}
 use Rattle.holding.proofs.Keeping.{times-none, steady-fits, caller-may}
-use Rattle.rtms.specs.Calls.{Call, START, SETPRIORITY, SEND, RECEIVE, AWAITMESSAGE, CLEARMESSAGE, SCHEDULE, CANCELSCHEDULE, SHUTDOWN, STARTSCHEDULER, READTIME, ENABLE, DISABLE, AWAITINTERRUPT, RESETINT, EVENT, REQSEMA, RELSEMA, TICK, TICKS, effectOf, doneBy}
+use Rattle.rtms.specs.Calls.{Call, START, SETPRIORITY, SEND, RECEIVE, AWAITMESSAGE, CLEARMESSAGE, SCHEDULE, CANCELSCHEDULE, SHUTDOWN, STARTSCHEDULER, READTIME, ENABLE, DISABLE, AWAITINTERRUPT, RESETINT, EVENT, REQSEMA, RELSEMA, INITPOOL, POOLCHECK, GETPOOL, PUTPOOL, TICK, TICKS, effectOf, doneBy}
 use Rattle.runs.specs.Runs.{leaves}
 use Rattle.runs.specs.Sight.{Act, requests, releases, neither, actOf, handedLevels}
 use Rattle.runs.proofs.Steady.{steady-done}
@@ -214,6 +214,10 @@ deed-of (DISABLE caller input) t steady = still-deed (DISABLE caller input) t (u
 deed-of (AWAITINTERRUPT caller) t steady = still-deed (AWAITINTERRUPT caller) t (unfold actOf in refl)
 deed-of (RESETINT caller input) t steady = still-deed (RESETINT caller input) t (unfold actOf in refl)
 deed-of (EVENT input) t steady = still-deed (EVENT input) t (unfold actOf in refl)
+deed-of (INITPOOL caller) t steady = still-deed (INITPOOL caller) t (unfold actOf in refl)
+deed-of (POOLCHECK caller stated) t steady = still-deed (POOLCHECK caller stated) t (unfold actOf in refl)
+deed-of (GETPOOL caller offset count own) t steady = still-deed (GETPOOL caller offset count own) t (unfold actOf in refl)
+deed-of (PUTPOOL caller offset count given) t steady = still-deed (PUTPOOL caller offset count given) t (unfold actOf in refl)
 deed-of TICK t steady = still-deed TICK t (unfold actOf in refl)
 deed-of (TICKS n) t steady = still-deed (TICKS n) t (unfold actOf in refl)
 

@@ -1,6 +1,7 @@
 -- What the calls do that are neither ticks nor about timer orders: they are not answered 35, and leave the clock and the orders. Assumes nothing.
 use mathlib.Core.Path.{_≡_, refl}
-use mathlib.Core.List.{[]}
+use mathlib.Core.Bool.{Bool}
+use mathlib.Core.List.{[], _∷_}
 use Prim.Native.Nat.{ℕ}
 use lib.Dec.{eqb}
 use lib.ListN.{length}
@@ -18,7 +19,7 @@ use Rattle.semaphores.specs.declared.Released.{Released}
 use Rattle.semaphores.specs.declared.Released.the-variants.{NotHeld, Freed, HandedTo}
 use Rattle.semaphores.specs.declared.Semaphores.{Semaphores}
 use Rattle.semaphores.specs.Semaphores.{requestOf as requestsOf, releaseOf as releasesOf}
-use Rattle.table.specs.declared.answers.Answer.the-variants.{ReceiverBufferOverflow, Ok}
+use Rattle.table.specs.declared.answers.Answer.the-variants.{ReceiverBufferOverflow, Ok, NoPoolInit, PoolOverflow, DataLengthFault, PoolLengthFault}
 use Rattle.table.specs.declared.configs.Privilege.{Privilege}
 use Rattle.table.specs.declared.configs.Privilege.the-variants.{Owns, Nobody}
 use Rattle.table.specs.declared.Table.{Table}
@@ -28,7 +29,7 @@ use Rattle.calls.specs.declared.Verdict.{Verdict}
 use Rattle.calls.specs.Effects.{Effect, message, carrying}
 use Rattle.calls.specs.Levels.{processOf}
 use Rattle.calls.specs.Outcomes.{toldAs}
-use Rattle.calls.specs.Verdicts.{obeyed, byCaller}
+use Rattle.calls.specs.Verdicts.{check, after, obeyed, byCaller}
 use Rattle.starting.specs.Starting.{startOf, setPriorityOf}
 use Rattle.posting.specs.Posting.{Posted}
 use Rattle.messages.specs.Sending.{sendPosted, sentBy, sentOf, sendOf}
@@ -37,7 +38,8 @@ use Rattle.timers.specs.declared.NewOrder.{NewOrder}
 use Rattle.timers.specs.Timers.{shutdownOf, startSchedulerOf, readTimeOf}
 use Rattle.interrupts.specs.Interrupts.{enableOf, disableOf, cameOf, openOf, awaitingOf, awaitingBy, awaitInterruptOf, resetInterruptOf, openedOf, openedBy, latchedOf, eventOf}
 use Rattle.holding.specs.Holding.{requestedBy, requestedOf, requestOf, releasedBy, releasedOf, releasedAllOf, releaseOf}
-use Rattle.rtms.specs.Calls.{Call, START, SETPRIORITY, SEND, RECEIVE, AWAITMESSAGE, CLEARMESSAGE, SCHEDULE, CANCELSCHEDULE, SHUTDOWN, STARTSCHEDULER, READTIME, ENABLE, DISABLE, AWAITINTERRUPT, RESETINT, EVENT, REQSEMA, RELSEMA, TICK, TICKS, effectOf}
+use Rattle.pooling.specs.Pooling.{initPoolOf, poolCheckOf, getPoolOf, putPoolOf}
+use Rattle.rtms.specs.Calls.{Call, START, SETPRIORITY, SEND, RECEIVE, AWAITMESSAGE, CLEARMESSAGE, SCHEDULE, CANCELSCHEDULE, SHUTDOWN, STARTSCHEDULER, READTIME, ENABLE, DISABLE, AWAITINTERRUPT, RESETINT, EVENT, REQSEMA, RELSEMA, INITPOOL, POOLCHECK, GETPOOL, PUTPOOL, TICK, TICKS, effectOf}
 use Rattle.runs.specs.Schedules.{deedOf, orderSteps, timedOf, ticksBy}
 use Rattle.runs.proofs.Answering.{Unlike, Avoids, avoids-none, avoids-more, avoids-caller, by-obeyed}
 
@@ -104,6 +106,14 @@ module _ (t : Table) where
   unfolding releasedAllOf
   mild-released-all caller = mild _ refl refl
 
+  -- nor do the checks of a part of the pool
+  access-avoids : (caller : ℕ) (begun same agreed within : Bool)
+      → Avoids 35 (after (byCaller (t .config) (processOf t caller) caller)
+      (check begun NoPoolInit ∷ check same DataLengthFault ∷ check agreed PoolLengthFault ∷ check within PoolOverflow ∷ []))
+  access-avoids caller begun same agreed within =
+      avoids-more 35 _ within PoolOverflow
+      (avoids-more 35 _ agreed PoolLengthFault (avoids-more 35 _ same DataLengthFault (avoids-more 35 _ begun NoPoolInit (own caller) refl) refl) refl) refl
+
 -- a call that is calm: its effect is such, and it is no step of the order table and no tick
 pub record CalmCall (t : Table) (call : Call) : Type 0 where
   pub mildly : Mild t (effectOf call t)
@@ -124,7 +134,7 @@ calmly holds none never = calm (record { mildly = holds; no-steps = none; no-tic
 
 -- which one a call is
 pub kind-of : (call : Call) (t : Table) → Kind t call
-unfolding deedOf orderSteps ticksBy startOf setPriorityOf sendOf sentOf receiveOf awaitMessageOf clearMessageOf shutdownOf startSchedulerOf readTimeOf enableOf disableOf awaitInterruptOf resetInterruptOf eventOf latchedOf requestOf requestedOf releaseOf releasedOf
+unfolding deedOf orderSteps ticksBy startOf setPriorityOf sendOf sentOf receiveOf awaitMessageOf clearMessageOf shutdownOf startSchedulerOf readTimeOf enableOf disableOf awaitInterruptOf resetInterruptOf eventOf latchedOf requestOf requestedOf releaseOf releasedOf initPoolOf poolCheckOf getPoolOf putPoolOf
 kind-of (START level priority) t =
     calmly (mild-obeyed t _ _ (avoids-more 35 _ _ _ (avoids-more 35 _ _ _ (avoids-more 35 _ _ _ (avoids-none 35) refl) refl) refl) (mild t _ refl refl)) refl refl
 kind-of (SETPRIORITY caller priority) t = calmly (mild-obeyed t _ _ (avoids-more 35 _ _ _ (own t caller) refl) (mild t _ refl refl)) refl refl
@@ -153,5 +163,10 @@ kind-of (REQSEMA caller asked) t =
 kind-of (RELSEMA caller given) t =
     calmly (mild-obeyed t _ _ (own t caller) (by-pick (Mild t) (eqb given minusOne) _ _ (mild-released-all t caller)
     (mild-released t (releasesOf (t .semaphores) caller given .released) _))) refl refl
+kind-of (INITPOOL caller) t = calmly (mild-obeyed t _ _ (own t caller) (mild t _ refl refl)) refl refl
+kind-of (POOLCHECK caller stated) t =
+    calmly (mild-obeyed t _ _ (avoids-more 35 _ _ _ (avoids-more 35 _ _ _ (own t caller) refl) refl) (mild t _ refl refl)) refl refl
+kind-of (GETPOOL caller offset count bytes) t = calmly (mild-obeyed t _ _ (access-avoids t caller _ _ _ _) (mild t _ refl refl)) refl refl
+kind-of (PUTPOOL caller offset count given) t = calmly (mild-obeyed t _ _ (access-avoids t caller _ _ _ _) (mild t _ refl refl)) refl refl
 kind-of TICK t = tick
 kind-of (TICKS n) t = many n

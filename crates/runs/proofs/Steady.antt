@@ -2,7 +2,7 @@
 use mathlib.Core.Path.{_≡_, sym, subst}
 use mathlib.Core.Bool.{true}
 use mathlib.Core.List.{List, [], _∷_}
-use lib.ListN.{length-replicate}
+use lib.ListN.{length, length-replicate}
 use Rattle.common.proofs.Packing.{length-packed}
 use Rattle.orders.specs.Orders.{noOrder, ordersOf, noneOf}
 use Rattle.process.specs.Process.{freshOf as freshProcess}
@@ -21,7 +21,8 @@ use Rattle.timers.proofs.Keeping.{schedule-keeps, cancel-schedule-keeps, shutdo
 use Rattle.interrupts.proofs.Keeping.{enable-keeps, disable-keeps, await-interrupt-keeps, reset-interrupt-keeps, event-keeps}
 use Rattle.holding.proofs.Keeping.{request-keeps, release-keeps}
 use Rattle.ticking.proofs.Keeping.{tick-keeps, ticks-keeps}
-use Rattle.rtms.specs.Calls.{Call, START, SETPRIORITY, SEND, RECEIVE, AWAITMESSAGE, CLEARMESSAGE, SCHEDULE, CANCELSCHEDULE, SHUTDOWN, STARTSCHEDULER, READTIME, ENABLE, DISABLE, AWAITINTERRUPT, RESETINT, EVENT, REQSEMA, RELSEMA, TICK, TICKS, effectOf, guardedOf, doneBy}
+use Rattle.pooling.proofs.Keeping.{init-pool-keeps, pool-check-keeps, get-pool-keeps, put-pool-keeps}
+use Rattle.rtms.specs.Calls.{Call, START, SETPRIORITY, SEND, RECEIVE, AWAITMESSAGE, CLEARMESSAGE, SCHEDULE, CANCELSCHEDULE, SHUTDOWN, STARTSCHEDULER, READTIME, ENABLE, DISABLE, AWAITINTERRUPT, RESETINT, EVENT, REQSEMA, RELSEMA, INITPOOL, POOLCHECK, GETPOOL, PUTPOOL, TICK, TICKS, effectOf, guardedOf, doneBy}
 use Rattle.runs.specs.Runs.{leaves, afterOf, runOf}
 
 -- a fresh table of a good configuration stands so
@@ -54,6 +55,10 @@ effect-keeps (RESETINT caller input) t steady = reset-interrupt-keeps t caller i
 effect-keeps (EVENT input) t steady = event-keeps t input steady
 effect-keeps (REQSEMA caller asked) t steady = request-keeps t caller asked steady
 effect-keeps (RELSEMA caller given) t steady = release-keeps t caller given steady
+effect-keeps (INITPOOL caller) t steady = init-pool-keeps t caller steady
+effect-keeps (POOLCHECK caller stated) t steady = pool-check-keeps t caller stated steady
+effect-keeps (GETPOOL caller offset count own) t steady = get-pool-keeps t caller offset count own steady
+effect-keeps (PUTPOOL caller offset count given) t steady = put-pool-keeps t caller offset count (length given) steady
 effect-keeps TICK t steady = unfold Keeps in tick-keeps t steady
 effect-keeps (TICKS n) t steady = unfold Keeps in ticks-keeps n t steady
 

@@ -39,7 +39,8 @@ use Rattle.timers.specs.Timers.{ordered, scheduleOf, cancelledOf, cancelSchedul
 use Rattle.ticking.specs.Ticking.{Run, letterOf, carriedOut, dueNow, carryingOut, stopping, passing, tickAt, tickOf, runEffect, ticksOf}
 use Rattle.interrupts.specs.Interrupts.{enableOf, disableOf, cameOf, openOf, awaitingOf, awaitingBy, awaitInterruptOf, resetInterruptOf, openedOf, openedBy, latchedOf, eventOf}
 use Rattle.holding.specs.Holding.{handoverWake}
-use Rattle.rtms.specs.Calls.{Call, START, SETPRIORITY, SEND, RECEIVE, AWAITMESSAGE, CLEARMESSAGE, SCHEDULE, CANCELSCHEDULE, SHUTDOWN, STARTSCHEDULER, READTIME, ENABLE, DISABLE, AWAITINTERRUPT, RESETINT, EVENT, REQSEMA, RELSEMA, TICK, TICKS, effectOf}
+use Rattle.pooling.specs.Pooling.{initPoolOf, poolCheckOf, getPoolOf, putPoolOf}
+use Rattle.rtms.specs.Calls.{Call, START, SETPRIORITY, SEND, RECEIVE, AWAITMESSAGE, CLEARMESSAGE, SCHEDULE, CANCELSCHEDULE, SHUTDOWN, STARTSCHEDULER, READTIME, ENABLE, DISABLE, AWAITINTERRUPT, RESETINT, EVENT, REQSEMA, RELSEMA, INITPOOL, POOLCHECK, GETPOOL, PUTPOOL, TICK, TICKS, effectOf}
 use Rattle.runs.specs.Sight.{requests, releases, neither, actOf, byHandover, handedLevels}
 
 -- ---- the levels that a handover wakes
@@ -165,7 +166,7 @@ not-neither caller number = (
 
 -- every other call leaves them alone
 still-of : (call : Call) (t : Table) → actOf call ≡ neither → Still t (effectOf call t)
-unfolding actOf startOf setPriorityOf sendOf sentOf receiveOf awaitMessageOf clearMessageOf scheduleOf cancelScheduleOf cancelledOf shutdownOf startSchedulerOf readTimeOf enableOf disableOf awaitInterruptOf resetInterruptOf eventOf latchedOf
+unfolding actOf startOf setPriorityOf sendOf sentOf receiveOf awaitMessageOf clearMessageOf scheduleOf cancelScheduleOf cancelledOf shutdownOf startSchedulerOf readTimeOf enableOf disableOf awaitInterruptOf resetInterruptOf eventOf latchedOf initPoolOf poolCheckOf getPoolOf putPoolOf
 still-of (START level priority) t none = still-obeyed _ t _ (still-none t _ _ _ refl)
 still-of (SETPRIORITY caller priority) t none = still-obeyed _ t _ (still-none t _ _ _ refl)
 still-of (SEND caller receiver condition m) t none = still-obeyed _ t _ (still-sent condition t (receiverOf (t .config) receiver) m)
@@ -185,6 +186,10 @@ still-of (RESETINT caller input) t none = still-obeyed _ t _ (still-none t _ _ _
 still-of (EVENT input) t none = still-obeyed _ t _ (still-opened (ownerOf (t .config) input) t _ input refl)
 still-of (REQSEMA caller asked) t none = not-neither caller asked .0 none
 still-of (RELSEMA caller given) t none = not-neither caller given .1 none
+still-of (INITPOOL caller) t none = still-obeyed _ t _ (still-none t _ _ _ refl)
+still-of (POOLCHECK caller stated) t none = still-obeyed _ t _ (still-none t _ _ _ refl)
+still-of (GETPOOL caller offset count own) t none = still-obeyed _ t _ (still-none t _ _ _ refl)
+still-of (PUTPOOL caller offset count given) t none = still-obeyed _ t _ (still-none t _ _ _ refl)
 still-of TICK t none = still-tick t
 still-of (TICKS n) t none = still-ticks n t
 

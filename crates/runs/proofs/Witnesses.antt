@@ -12,6 +12,7 @@ use Rattle.common.specs.Stands.{standsIn}
 use Rattle.day.specs.Fields.{madeOf}
 use Rattle.day.specs.TimeOfDay.{at, forwardOf, untilOf}
 use Rattle.inputs.specs.InputSet.{bitOf, wordOf, hasOf, setOf, emptyOf as noInputs, exceptOf, runOf as inputRun, risingOf, membersOf, countOf}
+use Rattle.pool.specs.Control.{freshOf as freshPool}
 use Rattle.process.specs.States.{nextOf}
 use Rattle.process.specs.declared.Condition.the-variants.{Always}
 use Rattle.process.specs.Marks.{tellOf}
@@ -28,7 +29,7 @@ use Rattle.table.specs.declared.configs.Config.{Config}
 use Rattle.table.specs.declared.Table.{Table}
 use Rattle.table.specs.Answers.{numberOf}
 use Rattle.table.specs.Configuration.{configuredOf, inputsOf, goodOf, receiverOf, senderOf}
-use Rattle.table.specs.Sound.{timesOf, levelSound, levelsSound, orderSound, ordersSound, holderSound, holdersSound, waiterSound, queueSound, onCard, soundOf}
+use Rattle.table.specs.Sound.{timesOf, levelSound, levelsSound, orderSound, ordersSound, holderSound, holdersSound, waiterSound, queueSound, onCard, lengthsSound, poolSound, soundOf}
 use Rattle.table.specs.Table.{freshOf}
 use Rattle.table.specs.Words.{minusOne}
 use Rattle.calls.specs.Levels.{processAt}
@@ -56,6 +57,7 @@ plant = record {
   card = 8;
   clock = at 0;
   privileged = replicate 3 (record { level = 255; first = 0; last = 0 });
+  pool = 0;
 }
 
 -- ---- a process that begins to wait with one waiter before it, and two releases
@@ -89,7 +91,7 @@ pub record ShowsTurns : Type 0 where
 
 -- it does
 pub shows-turns : ShowsTurns
-unfolding everyBelow keepOf packedOf standsIn bitOf wordOf hasOf setOf noInputs exceptOf inputRun risingOf membersOf countOf nextOf emptyBuffer movedOf listOf queued emptyQueue usableOf freshSemaphores standingOf ordersOf noneOf configuredOf inputsOf goodOf timesOf levelSound levelsSound orderSound ordersSound holderSound holdersSound waiterSound queueSound onCard soundOf freshOf processAt alsoOf obeyed startOf guardedOf afterOf pushOf levelsFor withoutFirst passedOf leavingOf holderOf waitersOf requestsOf holdsOf releasesOf requestedOf requestOf releasedOf releaseOf seenOf actOf handedLevels sightAfter sightOf releasesSeen
+unfolding everyBelow keepOf packedOf standsIn bitOf wordOf hasOf setOf noInputs exceptOf inputRun risingOf membersOf countOf nextOf emptyBuffer movedOf listOf queued emptyQueue usableOf freshSemaphores standingOf ordersOf noneOf configuredOf inputsOf goodOf timesOf levelSound levelsSound orderSound ordersSound holderSound holdersSound waiterSound queueSound onCard lengthsSound poolSound soundOf freshPool freshOf processAt alsoOf obeyed startOf guardedOf afterOf pushOf levelsFor withoutFirst passedOf leavingOf holderOf waitersOf requestsOf holdsOf releasesOf requestedOf requestOf releasedOf releaseOf seenOf actOf handedLevels sightAfter sightOf releasesSeen
 shows-turns = record {
   begins = record { good = refl; answered-32 = refl; k-1-before = refl };
   holds = refl;
@@ -148,7 +150,7 @@ pub record ShowsOrders : Type 0 where
 
 -- it does
 pub shows-orders : ShowsOrders
-unfolding deedOf everyBelow keepOf packedOf standsIn bitOf wordOf hasOf setOf noInputs exceptOf inputRun risingOf membersOf countOf nextOf emptyBuffer movedOf listOf queued emptyQueue usableOf freshSemaphores standingOf ordersOf noneOf configuredOf inputsOf goodOf timesOf levelSound levelsSound orderSound ordersSound holderSound holdersSound waiterSound queueSound onCard soundOf freshOf processAt alsoOf obeyed startOf guardedOf afterOf forwardOf untilOf madeOf intervalOf delayOf momentOf ordersPush acceptOf isFrom matchesOf howManyOf withoutOf removedOf cancelOf receiverOf senderOf putOf storedOf handedOf deliverOf tellOf markedBy oneOf allOf dueOf onwardOf leftsOf advanceOf ordered scheduleOf cancelledOf cancelScheduleOf startSchedulerOf carriedOut carryingOut tickAt tickOf ticksOf Undisturbed Lets isFor ticksIn ticksBy followedOn orderSteps
+unfolding deedOf everyBelow keepOf packedOf standsIn bitOf wordOf hasOf setOf noInputs exceptOf inputRun risingOf membersOf countOf nextOf emptyBuffer movedOf listOf queued emptyQueue usableOf freshSemaphores standingOf ordersOf noneOf configuredOf inputsOf goodOf timesOf levelSound levelsSound orderSound ordersSound holderSound holdersSound waiterSound queueSound onCard lengthsSound poolSound soundOf freshPool freshOf processAt alsoOf obeyed startOf guardedOf afterOf forwardOf untilOf madeOf intervalOf delayOf momentOf ordersPush acceptOf isFrom matchesOf howManyOf withoutOf removedOf cancelOf receiverOf senderOf putOf storedOf handedOf deliverOf tellOf markedBy oneOf allOf dueOf onwardOf leftsOf advanceOf ordered scheduleOf cancelledOf cancelScheduleOf startSchedulerOf carriedOut carryingOut tickAt tickOf ticksOf Undisturbed Lets isFor ticksIn ticksBy followedOn orderSteps
 shows-orders = record {
   running = record { running = refl; no-switch = refl };
   one = refl;
@@ -187,5 +189,5 @@ pub record ShowsStops : Type 0 where
 
 -- they do
 pub shows-stops : ShowsStops
-unfolding everyBelow keepOf packedOf standsIn bitOf wordOf hasOf setOf noInputs exceptOf inputRun risingOf membersOf countOf nextOf emptyBuffer movedOf listOf queued emptyQueue usableOf freshSemaphores standingOf ordersOf noneOf configuredOf inputsOf goodOf timesOf levelSound levelsSound orderSound ordersSound holderSound holdersSound waiterSound queueSound onCard soundOf freshOf processAt alsoOf obeyed startOf guardedOf afterOf forwardOf intervalOf delayOf momentOf ordersPush acceptOf ordered scheduleOf startSchedulerOf shutdownOf stopping passing tickAt tickOf ticksOf
+unfolding everyBelow keepOf packedOf standsIn bitOf wordOf hasOf setOf noInputs exceptOf inputRun risingOf membersOf countOf nextOf emptyBuffer movedOf listOf queued emptyQueue usableOf freshSemaphores standingOf ordersOf noneOf configuredOf inputsOf goodOf timesOf levelSound levelsSound orderSound ordersSound holderSound holdersSound waiterSound queueSound onCard lengthsSound poolSound soundOf freshPool freshOf processAt alsoOf obeyed startOf guardedOf afterOf forwardOf intervalOf delayOf momentOf ordersPush acceptOf ordered scheduleOf startSchedulerOf shutdownOf stopping passing tickAt tickOf ticksOf
 shows-stops = record { stops = refl; stopped = refl; due = refl; one = refl; passed = refl }

@@ -23,7 +23,7 @@ use Rattle.calls.specs.Effects.{number}
 use Rattle.timers.specs.declared.NewOrder.{NewOrder}
 use Rattle.timers.specs.Timers.{momentOf, firstBy, orderOf}
 use Rattle.ticking.specs.Ticking.{carriedOut, dueNow}
-use Rattle.rtms.specs.Calls.{Call, START, SETPRIORITY, SEND, RECEIVE, AWAITMESSAGE, CLEARMESSAGE, SCHEDULE, CANCELSCHEDULE, SHUTDOWN, STARTSCHEDULER, READTIME, ENABLE, DISABLE, AWAITINTERRUPT, RESETINT, EVENT, REQSEMA, RELSEMA, TICK, TICKS, doneBy}
+use Rattle.rtms.specs.Calls.{Call, START, SETPRIORITY, SEND, RECEIVE, AWAITMESSAGE, CLEARMESSAGE, SCHEDULE, CANCELSCHEDULE, SHUTDOWN, STARTSCHEDULER, READTIME, ENABLE, DISABLE, AWAITINTERRUPT, RESETINT, EVENT, REQSEMA, RELSEMA, INITPOOL, POOLCHECK, GETPOOL, PUTPOOL, TICK, TICKS, doneBy}
 use Rattle.runs.specs.Runs.{leaves, afterOf, runOf}
 
 -- ---- the order that a SCHEDULE enters
@@ -88,6 +88,10 @@ deedOf (RESETINT caller input) = neither
 deedOf (EVENT input) = neither
 deedOf (REQSEMA caller asked) = neither
 deedOf (RELSEMA caller given) = neither
+deedOf (INITPOOL caller) = neither
+deedOf (POOLCHECK caller stated) = neither
+deedOf (GETPOOL caller offset count own) = neither
+deedOf (PUTPOOL caller offset count given) = neither
 
 -- a step leaves the order to the clock: ticks find the scheduler running, and a CANCELSCHEDULE that is answered 0 is not for the order
 abbrev pub letsBy : Order → Deed → Table → Type 0

@@ -17,7 +17,7 @@ use Rattle.table.specs.declared.wakes.Woken.the-variants.{ByMessage, ByEvent, B
 use Rattle.table.specs.Configuration.{goodOf}
 use Rattle.table.specs.Table.{freshOf}
 use Rattle.table.specs.Words.{minusOne}
-use Rattle.rtms.specs.Calls.{Call, START, SETPRIORITY, SEND, RECEIVE, AWAITMESSAGE, CLEARMESSAGE, SCHEDULE, CANCELSCHEDULE, SHUTDOWN, STARTSCHEDULER, READTIME, ENABLE, DISABLE, AWAITINTERRUPT, RESETINT, EVENT, REQSEMA, RELSEMA, TICK, TICKS}
+use Rattle.rtms.specs.Calls.{Call, START, SETPRIORITY, SEND, RECEIVE, AWAITMESSAGE, CLEARMESSAGE, SCHEDULE, CANCELSCHEDULE, SHUTDOWN, STARTSCHEDULER, READTIME, ENABLE, DISABLE, AWAITINTERRUPT, RESETINT, EVENT, REQSEMA, RELSEMA, INITPOOL, POOLCHECK, GETPOOL, PUTPOOL, TICK, TICKS}
 use Rattle.runs.specs.Runs.{runOf, Seen, seenOf}
 
 -- what a call has to do with semaphores: the caller, and the number
@@ -45,6 +45,10 @@ actOf (DISABLE caller input) = neither
 actOf (AWAITINTERRUPT caller) = neither
 actOf (RESETINT caller input) = neither
 actOf (EVENT input) = neither
+actOf (INITPOOL caller) = neither
+actOf (POOLCHECK caller stated) = neither
+actOf (GETPOOL caller offset count own) = neither
+actOf (PUTPOOL caller offset count given) = neither
 actOf TICK = neither
 actOf (TICKS n) = neither
 

@@ -1,9 +1,9 @@
--- Document 01, "Answer numbers": the number of each answer, under the name that the document gives it.
+-- Document 01, "Answer numbers", and document 02, §1: the number of each answer, under the name that the document gives it.
 use mathlib.Core.Bool.{Bool, not, _&&_}
 use Prim.Native.Nat.{ℕ}
 use lib.Dec.{eqb}
 use Rattle.table.specs.declared.answers.Answer.{Answer}
-use Rattle.table.specs.declared.answers.Answer.the-variants.{Ok, ReceiverUnknown, ReceiverNotReady, ReceiverBufferOverflow, BufferEmpty, BufferOverflow, ParameterError, NoTask, NotFound, CommandPrivileged, NoUser, IllegalInput, TaskListOverflow, TimeCondition, NoSemaphoreNumber, Suspended, NotReady, Started, BadConfig, BadLog}
+use Rattle.table.specs.declared.answers.Answer.the-variants.{Ok, ReceiverUnknown, ReceiverNotReady, ReceiverBufferOverflow, BufferEmpty, BufferOverflow, ParameterError, NoTask, NotFound, CommandPrivileged, NoUser, IllegalInput, TaskListOverflow, TimeCondition, NoSemaphoreNumber, NoPoolInit, PoolOverflow, DataLengthFault, PoolLengthFault, Suspended, NotReady, Started, BadConfig, BadLog}
 
 abbrev pub numberOf : Answer → ℕ
 -- OK
@@ -36,6 +36,14 @@ numberOf TaskListOverflow = 13
 numberOf TimeCondition = 14
 -- NOSEMANUMBER
 numberOf NoSemaphoreNumber = 15
+-- NOPOOLINIT
+numberOf NoPoolInit = 16
+-- POOLOVERFLOW
+numberOf PoolOverflow = 17
+-- DATALENFAULT
+numberOf DataLengthFault = 18
+-- POOLLENFAULT
+numberOf PoolLengthFault = 19
 -- SUSPENDED
 numberOf Suspended = 32
 -- NOTREADY

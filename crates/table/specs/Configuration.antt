@@ -1,4 +1,4 @@
--- Document 01, "Configuration".
+-- Document 01, "Configuration", with the pool's size of document 02, §1.
 use mathlib.Core.Bool.{Bool, not, _&&_, _||_}
 use Prim.Native.Nat.{ℕ, _+_}
 use lib.Dec.{eqb, leb, ltb}
@@ -64,9 +64,13 @@ allPrivilegedGood c =
     && apartOf (privilegedAt c 0) (privilegedAt c 2)
     && apartOf (privilegedAt c 1) (privilegedAt c 2)
 
+-- document 02, §1: "the pool's size, 0 to 4,096 .. A size above 4,096 is 35."
+abbrev pub poolGood : Config → Bool
+poolGood c = leb (c .pool) 4096
+
 -- "Start clock 0..86,399,999. All else is BADCONFIG, and no table comes of it."
 unfoldable pub goodOf : Config → Bool
-goodOf c = levelsGood c && schedulerGood c && placesGood c && allPrivilegedGood c && ltb (c .clock .milliseconds) day
+goodOf c = levelsGood c && schedulerGood c && placesGood c && allPrivilegedGood c && ltb (c .clock .milliseconds) day && poolGood c
 
 -- "receiver -1 or configured": whom a call names as its receiver
 unfoldable pub receiverOf : Config → ℕ → Target

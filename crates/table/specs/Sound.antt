@@ -14,6 +14,8 @@ use Rattle.inputs.specs.declared.InputSet.{InputSet}
 use Rattle.inputs.specs.InputSet.{exceptOf, runOf, countOf}
 use Rattle.orders.specs.declared.Order.{Order}
 use Rattle.orders.specs.declared.Orders.{Orders}
+use Rattle.pool.specs.declared.Control.{Control}
+use Rattle.pool.specs.Control.{never}
 use Rattle.process.specs.declared.Condition.the-variants.{Always}
 use Rattle.process.specs.declared.Process.{Process}
 use Rattle.process.specs.declared.states.State.the-variants.{Inactive, WaitingForMessage, WaitingForSemaphore}
@@ -105,6 +107,20 @@ onCard c set = eqb (countOf (exceptOf set (runOf 0 (inputsOf c - 1)))) 0
 abbrev pub clockWithin : Table → Bool
 clockWithin t = ltb (t .clock .milliseconds) day
 
+-- document 02, §1, and "a number beyond its limit": a length that was stated, beyond the pool's size
+abbrev pub lengthWithin : Config → ℕ → Bool
+lengthWithin c length = eqb length never || leb length (c .pool)
+
+abbrev pub lengthSound : Config → ℕ → ℕ → Bool
+lengthSound c level length = not (configuredOf c level) || lengthWithin c length
+
+unfoldable pub lengthsSound : Config → List ℕ → Bool
+lengthsSound c stated = everyBelow 12 (λ level. lengthSound c level (getD stated level 0))
+
+-- each process's own, and the common one
+unfoldable pub poolSound : Config → Control → Bool
+poolSound c control = lengthsSound c (control .stated) && lengthWithin c (control .common)
+
 -- none of the breaks, "a bad configuration" first
 unfoldable pub soundOf : Table → Bool
 soundOf t =
@@ -116,3 +132,4 @@ soundOf t =
     && queueSound (t .config) (t .semaphores .holders) (t .semaphores .queue)
     && onCard (t .config) (t .mask)
     && onCard (t .config) (t .latch)
+    && poolSound (t .config) (t .pool)

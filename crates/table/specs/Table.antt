@@ -3,6 +3,7 @@ use mathlib.Core.Bool.{false}
 use lib.ListN.{replicate}
 use Rattle.inputs.specs.InputSet.{emptyOf}
 use Rattle.orders.specs.Orders.{noneOf}
+use Rattle.pool.specs.Control.{freshOf as freshPool}
 use Rattle.process.specs.Messages.{zeros}
 use Rattle.process.specs.Process.{freshOf as freshProcess}
 use Rattle.semaphores.specs.Semaphores.{freshOf as freshSemaphores}
@@ -14,6 +15,7 @@ use Rattle.table.specs.declared.Shown.the-variants.{Nothing}
 use Rattle.table.specs.Wakes.{noWakesOf}
 
 -- "Fresh: every process INACT, priority 32, buffers and orders empty, semaphores free, marks, masks, latches and switch clear, scheduler stopped."
+-- And nobody uses the pool.
 unfoldable pub freshOf : Config → Table
 freshOf c = record {
   config = c;
@@ -24,6 +26,7 @@ freshOf c = record {
   semaphores = freshSemaphores;
   mask = emptyOf;
   latch = emptyOf;
+  pool = freshPool;
 }
 
 -- "A refusal carries no message (sixteen zeros), no inputs and .. no wakes", and leaves the table as it is

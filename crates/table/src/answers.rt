@@ -1,4 +1,4 @@
-// What a call is answered with: document 01's "Answer numbers".
+// What a call is answered with: document 01's "Answer numbers", and those of document 02, §1.
 ghost use mathlib.Core.Path.{_≡_};
 ghost use Rattle.table.specs.Answers.{numberOf, refusalOf};
 
@@ -18,6 +18,10 @@ pub enum Answer {
     TaskListOverflow,
     TimeCondition,
     NoSemaphoreNumber,
+    NoPoolInit,
+    PoolOverflow,
+    DataLengthFault,
+    PoolLengthFault,
     Suspended,
     NotReady,
     Started,
@@ -46,6 +50,10 @@ impl Answer {
             Answer::TaskListOverflow => 13,
             Answer::TimeCondition => 14,
             Answer::NoSemaphoreNumber => 15,
+            Answer::NoPoolInit => 16,
+            Answer::PoolOverflow => 17,
+            Answer::DataLengthFault => 18,
+            Answer::PoolLengthFault => 19,
             Answer::Suspended => 32,
             Answer::NotReady => 33,
             Answer::Started => 34,

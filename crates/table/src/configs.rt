@@ -32,6 +32,8 @@ pub struct Config {
     // What the clock reads at the start.
     pub clock: TimeOfDay,
     pub privileged: [Privileged; 3],
+    // The size of the common data pool, in bytes.
+    pub pool: u16,
 }
 
 // Whether a privileged place was found.
@@ -198,7 +200,7 @@ impl Config {
         a.good(self) & b.good(self) & c.good(self) & a.apart(b) & a.apart(c) & b.apart(c)
     }
 
-    // The configuration is one that document 01 allows.
+    // The configuration is one that document 01 allows, and document 02, §1.
     pub fn good(self) -> bool
         ensures { λ r. ⌜ r ≡ goodOf self ⌝ }
     {
@@ -208,5 +210,6 @@ impl Config {
             & self.places_good()
             & self.privileged_good()
             & (clock.milliseconds < day::DAY)
+            & (self.pool <= pool::LARGEST)
     }
 }

@@ -12,6 +12,7 @@ use configs::Config;
 use day::TimeOfDay;
 use inputs::InputSet;
 use orders::Orders;
+use pool::Control;
 use process::Process;
 use process::buffers::Message;
 use semaphores::Semaphores;
@@ -34,6 +35,8 @@ pub struct Table {
     // Which inputs are enabled, and which events came.
     pub mask: InputSet,
     pub latch: InputSet,
+    // Who uses the common data pool. Its bytes are lent beside the table: four kilobytes here would be copied with every call.
+    pub pool: Control,
 }
 
 // What an answer carries, besides its number.
@@ -42,6 +45,8 @@ pub enum Shown {
     Message,
     Inputs,
     Number,
+    // So many bytes of the pool, as the number says.
+    Data,
 }
 
 // The one result of every call, event and tick.
@@ -52,7 +57,7 @@ pub struct Outcome {
     pub message: Message,
     // Empty where no inputs are shown.
     pub inputs: InputSet,
-    // The milliseconds of READTIME, or how many orders were carried out; else 0.
+    // The milliseconds of READTIME, how many orders were carried out, or how many bytes GETPOOL answers with; else 0.
     pub number: u64,
     pub wakes: Wakes,
     pub table: Table,
@@ -80,6 +85,7 @@ impl Table {
             semaphores: Semaphores::fresh(),
             mask: InputSet::empty(),
             latch: InputSet::empty(),
+            pool: Control::fresh(),
         }
     }
 

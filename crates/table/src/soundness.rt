@@ -1,11 +1,12 @@
 // Whether a table that is handed in shows a break. A table that the executive made never does.
 ghost use mathlib.Core.Path.{_≡_};
-ghost use Rattle.table.specs.Sound.{timesOf, levelSound, levelsSound, orderSound, ordersSound, holderSound, holdersSound, waiterSound, queueSound, onCard, soundOf};
+ghost use Rattle.table.specs.Sound.{timesOf, levelSound, levelsSound, orderSound, ordersSound, holderSound, holdersSound, waiterSound, queueSound, onCard, lengthWithin, lengthSound, lengthsSound, poolSound, soundOf};
 use crate::Table;
 use crate::configs::Config;
 use inputs::InputSet;
 use orders::Order;
 use orders::Orders;
+use pool::Control;
 use process::Process;
 use process::states::State;
 use semaphores::FREE;
@@ -143,6 +144,40 @@ fn on_card(config: Config, set: InputSet) -> bool
     set.except(InputSet::run(0, last)).count() == 0
 }
 
+// A length that was stated is at most the pool's size.
+fn length_within(config: Config, length: u16) -> bool
+    ensures { λ r. ⌜ r ≡ lengthWithin config length ⌝ }
+{
+    (length == pool::NEVER) | (length <= config.pool)
+}
+
+// What stands at a level that is not configured is not looked at.
+fn length_sound(config: Config, level: u8, length: u16) -> bool
+    ensures { λ r. ⌜ r ≡ lengthSound config level length ⌝ }
+{
+    let configured = config.has_level(level as u16);
+    !configured | length_within(config, length)
+}
+
+fn lengths_sound(config: Config, stated: [u16; 12]) -> bool
+    ensures { λ r. ⌜ r ≡ lengthsSound config stated ⌝ }
+{
+    let mut all = true;
+    let mut level: u8 = 0;
+    while level < 12 {
+        all = all & length_sound(config, level, stated[level as usize]);
+        level += 1;
+    }
+    all
+}
+
+fn pool_sound(config: Config, control: Control) -> bool
+    ensures { λ r. ⌜ r ≡ poolSound config control ⌝ }
+{
+    let stated = control.stated;
+    lengths_sound(config, stated) & length_within(config, control.common)
+}
+
 // None of the breaks that document 01 lists.
 pub fn sound(table: Table) -> bool
     ensures { λ r. ⌜ r ≡ soundOf table ⌝ }
@@ -156,6 +191,7 @@ pub fn sound(table: Table) -> bool
     let queue = semaphores.queue;
     let mask = table.mask;
     let latch = table.latch;
+    let control = table.pool;
     config.good()
         & (clock.milliseconds < day::DAY)
         & levels_sound(config, queue, processes)
@@ -164,4 +200,5 @@ pub fn sound(table: Table) -> bool
         & queue_sound(config, holders, queue)
         & on_card(config, mask)
         & on_card(config, latch)
+        & pool_sound(config, control)
 }

@@ -1,8 +1,10 @@
 //! Damage to one field of the trailer or of a record. The sum of a damaged record is made right again, so that the
 //! field alone decides.
 
-use super::{body, mended, number_of_records, set, with_trailer};
-use crate::log::{has_no_caller, is_well_formed, kind, Record, NO_LEVEL, RECORD_LENGTH, TRAILER_LENGTH};
+use super::{mended, number_of_records, set, with_record};
+use crate::log::{
+    has_no_caller, is_well_formed, kind, Record, NO_CALLER, NO_LEVEL, RECORD_LENGTH, TRAILER_LENGTH,
+};
 use crate::random::Random;
 
 /// The four bytes of a trailer's field, changed by a function.
@@ -45,9 +47,13 @@ fn record_at(log: &[u8], index: usize) -> Option<Record> {
     Some(Record::from_bytes(bytes.try_into().ok()?))
 }
 
-/// Tries bytes of a record until one is found that a good record does not have so.
-pub fn unused_field(mut log: Vec<u8>, random: &mut Random) -> Vec<u8> {
+pub fn unused_field(log: Vec<u8>, random: &mut Random) -> Vec<u8> {
     let index = random.index(number_of_records(&log));
+    spoiled(log, index, random)
+}
+
+/// Tries bytes of the record at an index until one is found that a good record does not have so.
+pub fn spoiled(mut log: Vec<u8>, index: usize, random: &mut Random) -> Vec<u8> {
     for _ in 0..50 {
         let position = index * RECORD_LENGTH + 1 + random.index(RECORD_LENGTH - 1);
         let before = log.get(position).copied().unwrap_or(0);
@@ -69,6 +75,18 @@ pub fn high_bits(mut log: Vec<u8>, random: &mut Random) -> Vec<u8> {
     mended(log)
 }
 
+/// A kind above the last one.
+fn unknown(random: &mut Random) -> u8 {
+    random.between(i64::from(kind::LAST) + 1, 255) as u8
+}
+
+/// A record with nothing wrong but its kind.
+pub fn unknown_kind(log: Vec<u8>, random: &mut Random) -> Vec<u8> {
+    let kind = if random.chance(50) { kind::LAST + 1 } else { unknown(random) };
+    let caller = if random.chance(70) { random.byte() & 15 } else { NO_CALLER };
+    with_record(log, Record { kind, caller, ..Record::default() }, random).0
+}
+
 /// A configuration in the middle, an unknown kind, or another kind with the fields of this one.
 pub fn kind(mut log: Vec<u8>, random: &mut Random) -> Vec<u8> {
     let position = RECORD_LENGTH * random.index(number_of_records(&log));
@@ -76,8 +94,8 @@ pub fn kind(mut log: Vec<u8>, random: &mut Random) -> Vec<u8> {
         0 => 0,
         1 => kind::LAST + 1,
         2 => 255,
-        3 => random.between(20, 255) as u8,
-        _ => random.between(1, 19) as u8,
+        3 => unknown(random),
+        _ => random.between(1, i64::from(kind::LAST)) as u8,
     };
     if kind == 0 && random.chance(50) {
         let first: Vec<u8> = log[..RECORD_LENGTH.min(log.len())].to_vec();
@@ -89,12 +107,8 @@ pub fn kind(mut log: Vec<u8>, random: &mut Random) -> Vec<u8> {
 }
 
 pub fn zero_ticks(log: Vec<u8>, random: &mut Random) -> Vec<u8> {
-    let mut body = body(log);
-    let ticks = Record { kind: kind::TICKS, caller: 255, ..Record::default() };
-    let place = RECORD_LENGTH * (1 + random.index(body.len() / RECORD_LENGTH));
-    let place = place.min(body.len());
-    body.splice(place..place, ticks.to_bytes());
-    with_trailer(body)
+    let ticks = Record { kind: kind::TICKS, caller: NO_CALLER, ..Record::default() };
+    with_record(log, ticks, random).0
 }
 
 /// The caller's byte of a record that belongs to no process.

@@ -33,6 +33,14 @@ pub enum Answer {
     TimeCondition,
     /// NOSEMANUMBER
     NoSemaphore,
+    /// NOPOOLINIT
+    PoolNotInitialised,
+    /// POOLOVERFLOW
+    BeyondPool,
+    /// DATALENFAULT
+    DataLengthFault,
+    /// POOLLENFAULT
+    PoolLengthFault,
     /// SUSPENDED
     Suspended,
     /// NOTREADY
@@ -63,6 +71,10 @@ impl Answer {
             Answer::OrdersFull => 13,
             Answer::TimeCondition => 14,
             Answer::NoSemaphore => 15,
+            Answer::PoolNotInitialised => 16,
+            Answer::BeyondPool => 17,
+            Answer::DataLengthFault => 18,
+            Answer::PoolLengthFault => 19,
             Answer::Suspended => 32,
             Answer::NotReady => 33,
             Answer::Started => 34,

@@ -5,6 +5,9 @@ use crate::log::{Record, NO_LEVEL};
 
 pub const HIGHEST_LEVEL: i32 = 11;
 
+/// The largest common data pool, in bytes.
+pub const LARGEST_POOL: u16 = 4_096;
+
 /// A privileged process owns one run of inputs, both ends included.
 #[derive(Clone, Copy, Debug, PartialEq, Eq)]
 pub struct Privileged {
@@ -33,6 +36,8 @@ pub struct Configuration {
     pub order_places: u8,
     pub card: u8,
     pub clock: u32,
+    /// How many bytes the common data pool has.
+    pub pool_size: u16,
     pub privileged: Vec<Privileged>,
 }
 
@@ -56,6 +61,7 @@ impl Configuration {
             order_places: record.minute,
             card: record.second,
             clock: record.amount,
+            pool_size: record.millisecond,
             privileged,
         }
     }
@@ -77,7 +83,7 @@ impl Configuration {
             hour: self.message_places,
             minute: self.order_places,
             second: self.card,
-            millisecond: 0,
+            millisecond: self.pool_size,
             amount: self.clock,
             second_parameter: self.processes,
             message,
@@ -95,6 +101,7 @@ impl Configuration {
             && (1..=64).contains(&self.order_places)
             && (self.card == 8 || self.card == 16)
             && self.clock < DAY
+            && self.pool_size <= LARGEST_POOL
             && self.has_good_privileged()
     }
 

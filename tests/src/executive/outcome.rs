@@ -14,6 +14,8 @@ pub enum Addition {
     Milliseconds(u32),
     /// How many orders were carried out. Many ticks with many orders need more than 32 bits.
     OrdersCarriedOut(u64),
+    /// A part of the pool, as long as the caller asked for; it may have no byte.
+    Data(Vec<u8>),
 }
 
 /// A process that waited is READY again.

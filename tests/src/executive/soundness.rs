@@ -13,6 +13,7 @@ impl Executive {
             && self.has_sound_orders()
             && self.has_sound_inputs()
             && self.has_sound_semaphores()
+            && self.has_sound_pool()
     }
 
     fn is_sound_process(&self, level: u8, process: &Process) -> bool {
@@ -54,5 +55,65 @@ impl Executive {
                     .iter()
                     .all(|waiter| self.state(*waiter) == Some(State::WaitsForSemaphore))
         })
+    }
+
+    /// No length that anybody stated goes beyond the pool's size.
+    fn has_sound_pool(&self) -> bool {
+        let size = self.configuration.pool_size;
+        self.pool.bytes.len() == usize::from(size)
+            && self.pool.common_length.is_none_or(|length| length <= size)
+            && self.pool.users.iter().all(|(level, stated)| {
+                self.processes.contains_key(level) && stated.is_none_or(|length| length <= size)
+            })
+    }
+}
+
+#[cfg(test)]
+mod tests {
+    use super::super::configuration::{Configuration, LARGEST_POOL};
+    use super::Executive;
+
+    /// The processes 2 and 3 with a pool of this size, after a change that no call would make.
+    fn is_sound_after(pool_size: u16, change: impl Fn(&mut Executive)) -> Option<bool> {
+        let configuration = Configuration {
+            lowest: 2,
+            processes: 2,
+            scheduler: 11,
+            message_places: 1,
+            order_places: 1,
+            card: 8,
+            clock: 0,
+            pool_size,
+            privileged: Vec::new(),
+        };
+        let mut executive = Executive::fresh(configuration).ok()?;
+        change(&mut executive);
+        Some(executive.is_sound())
+    }
+
+    #[test]
+    fn a_size_beyond_the_largest_is_a_break() {
+        let with_size = |size: u16| {
+            is_sound_after(1, |executive| {
+                executive.configuration.pool_size = size;
+                executive.pool.bytes.resize(usize::from(size), 0);
+            })
+        };
+        assert_eq!(with_size(LARGEST_POOL), Some(true));
+        assert_eq!(with_size(LARGEST_POOL + 1), Some(false));
+    }
+
+    #[test]
+    fn a_length_beyond_the_size_is_a_break() {
+        for size in [0, 8, LARGEST_POOL] {
+            for (length, is_sound) in [(0, true), (size, true), (size + 1, false), (u16::MAX, false)] {
+                let common = is_sound_after(size, |executive| executive.pool.common_length = Some(length));
+                assert_eq!(common, Some(is_sound), "size {size} common {length}");
+                let stated = is_sound_after(size, |executive| {
+                    executive.pool.users.insert(3, Some(length));
+                });
+                assert_eq!(stated, Some(is_sound), "size {size} stated {length}");
+            }
+        }
     }
 }

@@ -6,7 +6,7 @@ use crate::log::{has_no_caller, kind, Record, NO_CALLER, WAITING};
 use crate::random::Random;
 
 /// How often each kind comes in a log that is about everything.
-const EVEN: [(u8, u64); 19] = [
+const EVEN: [(u8, u64); 23] = [
     (kind::SEND, 14),
     (kind::RECEIVE, 8),
     (kind::AWAITMESSAGE, 8),
@@ -26,10 +26,14 @@ const EVEN: [(u8, u64); 19] = [
     (kind::START_SCHEDULER, 2),
     (kind::TICKS, 10),
     (kind::READTIME, 2),
+    (kind::INITPOOL, 3),
+    (kind::POOLCHECK, 3),
+    (kind::GETPOOL, 6),
+    (kind::PUTPOOL, 6),
 ];
 
 /// What a log may be mostly about.
-const SUBJECTS: [&[u8]; 5] = [
+const SUBJECTS: [&[u8]; 6] = [
     &[],
     &[kind::SEND, kind::RECEIVE, kind::AWAITMESSAGE, kind::CLEARMESSAGE],
     &[
@@ -43,6 +47,7 @@ const SUBJECTS: [&[u8]; 5] = [
     ],
     &[kind::ENABLE, kind::DISABLE, kind::AWAITINTERRUPT, kind::RESETINT, kind::EVENT],
     &[kind::REQSEMA, kind::RELSEMA, kind::SETPRIORITY],
+    &[kind::INITPOOL, kind::POOLCHECK, kind::GETPOOL, kind::PUTPOOL],
 ];
 
 pub fn weights(random: &mut Random) -> Vec<u64> {
@@ -100,6 +105,10 @@ impl Generator {
             kind::START => self.start(),
             kind::START_SCHEDULER => outside(kind),
             kind::TICKS => self.ticks(),
+            kind::INITPOOL => self.init_pool(),
+            kind::POOLCHECK => self.check_pool(),
+            kind::GETPOOL => self.get_pool(),
+            kind::PUTPOOL => self.put_pool(),
             _ => Record { kind, caller: self.caller(), ..Record::default() },
         }
     }
@@ -159,7 +168,7 @@ impl Generator {
     /// Any kind with any parameters, as far as a good log may have them.
     fn blind(&mut self) -> Record {
         let kind = self.random.between(1, i64::from(kind::LAST)) as u8;
-        if matches!(kind, kind::TICKS | kind::SCHEDULE) {
+        if matches!(kind, kind::TICKS | kind::SCHEDULE | kind::GETPOOL | kind::PUTPOOL) {
             return self.of_kind(kind);
         }
         let caller = match self.random.below(4) {
@@ -168,8 +177,9 @@ impl Generator {
             _ => self.configured_level(),
         };
         let mut record = Record { kind, caller, ..Record::default() };
-        let uses_none = [kind::RECEIVE, kind::AWAITMESSAGE, kind::SHUTDOWN, kind::AWAITINTERRUPT];
-        if !uses_none.contains(&kind) && kind != kind::START_SCHEDULER && kind != kind::READTIME {
+        let calls = [kind::RECEIVE, kind::AWAITMESSAGE, kind::SHUTDOWN, kind::AWAITINTERRUPT];
+        let uses_none = [&calls[..], &[kind::START_SCHEDULER, kind::READTIME, kind::INITPOOL]].concat();
+        if !uses_none.contains(&kind) {
             record.first_parameter = self.odd();
         }
         if matches!(kind, kind::CANCELSCHEDULE | kind::START) {

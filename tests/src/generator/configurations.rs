@@ -1,6 +1,6 @@
 //! Random configurations: small good ones, and bad ones in every way that the rules name.
 
-use crate::executive::configuration::{Configuration, Privileged};
+use crate::executive::configuration::{Configuration, Privileged, LARGEST_POOL};
 use crate::executive::time::DAY;
 use crate::random::Random;
 
@@ -23,6 +23,7 @@ pub fn good(random: &mut Random) -> Configuration {
         order_places: order_places(random),
         card,
         clock: clock(random),
+        pool_size: pool_size(random),
         privileged: privileged(random, lowest, processes, highest_input),
     }
 }
@@ -46,6 +47,17 @@ fn clock(random: &mut Random) -> u32 {
         _ => random.between(0, day - 1),
     };
     clock as u32
+}
+
+/// Mostly so small that parts meet and that their ends are near.
+fn pool_size(random: &mut Random) -> u16 {
+    match random.below(20) {
+        0 | 1 => 0,
+        2..=12 => random.between(1, 40) as u16,
+        13..=15 => LARGEST_POOL,
+        16 => LARGEST_POOL - 1,
+        _ => random.between(1, i64::from(LARGEST_POOL)) as u16,
+    }
 }
 
 /// Up to three processes with runs that do not meet but often touch, in any order.
@@ -97,9 +109,19 @@ pub fn bad(random: &mut Random, good: &Configuration) -> Configuration {
             bad.lowest = 12 - good.processes;
             bad.processes = good.processes + 1;
         }
+        11..=13 => bad.pool_size = bad_pool_size(random),
         _ => spoil_privileged(random, &mut bad),
     }
     bad
+}
+
+fn bad_pool_size(random: &mut Random) -> u16 {
+    match random.below(8) {
+        0..=2 => LARGEST_POOL + 1,
+        3 | 4 => u16::MAX,
+        5 => random.pick(&[8_192, 32_767, 32_768]).unwrap_or(8_192),
+        _ => random.between(i64::from(LARGEST_POOL) + 1, i64::from(u16::MAX)) as u16,
+    }
 }
 
 fn spoil_privileged(random: &mut Random, bad: &mut Configuration) {

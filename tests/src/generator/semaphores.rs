@@ -5,7 +5,7 @@ use crate::log::{kind, Record};
 use crate::random::Random;
 
 /// Up to four usable numbers, often those at the ends of the two runs.
-pub fn pool(random: &mut Random) -> Vec<i16> {
+pub fn some_usable(random: &mut Random) -> Vec<i16> {
     let number = random.between(1, 4);
     (0..number)
         .map(|_| match random.below(3) {

@@ -23,6 +23,7 @@ fn records() -> Vec<Record> {
         order_places: 2,
         card: 8,
         clock: 0,
+        pool_size: 0,
         privileged: Vec::new(),
     };
     let call = |kind, caller| Record { kind, caller, ..Record::default() };

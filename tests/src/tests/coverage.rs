@@ -3,13 +3,15 @@
 use crate::coverage::Coverage;
 use crate::damage::damaged;
 use crate::effort::is_small;
+use crate::executive::configuration::LARGEST_POOL;
+use crate::executive::outcome::Addition;
 use crate::generator;
-use crate::run::run;
+use crate::run::{run, Run};
 use std::collections::BTreeSet;
 use std::time::{Duration, Instant};
 
 /// Every kind with the answers that the rules allow it. 10 and 33 belong to every call of a process.
-const ALLOWED: [(u8, &[u8]); 20] = [
+const ALLOWED: [(u8, &[u8]); 24] = [
     (0, &[0, 35]),
     (1, &[0, 1, 2, 3, 10, 33]),
     (2, &[0, 4, 5, 10, 14, 33]),
@@ -30,6 +32,10 @@ const ALLOWED: [(u8, &[u8]); 20] = [
     (17, &[0]),
     (18, &[0]),
     (19, &[0, 10, 33]),
+    (20, &[0, 10, 33]),
+    (21, &[0, 10, 16, 17, 33]),
+    (22, &[0, 10, 16, 17, 18, 19, 33]),
+    (23, &[0, 10, 16, 17, 18, 19, 33]),
 ];
 
 /// Every kind that wakes, with the wake's answers and what it brings.
@@ -57,6 +63,37 @@ fn random_logs_reach_every_answer_and_every_wake() {
     let wakes: BTreeSet<(u8, u8, &str)> = coverage.wakes.keys().copied().collect();
     assert_eq!(wakes, BTreeSet::from(WAKES), "{}", coverage.table());
     assert_eq!(coverage.bad_logs, 0);
+}
+
+/// How many bytes GETPOOL brings in the runs of the first seeds.
+fn lengths_of_data(seeds: u64) -> BTreeSet<usize> {
+    let mut lengths = BTreeSet::new();
+    for seed in 1..=seeds {
+        let Run::Obeyed { outcomes, .. } = run(&generator::log(seed)) else {
+            continue;
+        };
+        lengths.extend(outcomes.iter().filter_map(|outcome| match &outcome.addition {
+            Addition::Data(data) => Some(data.len()),
+            _ => None,
+        }));
+    }
+    lengths
+}
+
+#[test]
+fn random_logs_print_no_byte_and_the_largest_pool_at_once() {
+    let lengths = lengths_of_data(300);
+    for length in [0, 1, 16, usize::from(LARGEST_POOL)] {
+        assert!(lengths.contains(&length), "{length}");
+    }
+}
+
+#[test]
+fn random_configurations_have_pools_of_every_sort() {
+    let sizes: BTreeSet<u16> = (1..=2_000).map(|seed| generator::records(seed)[0].millisecond).collect();
+    for size in [0, 1, LARGEST_POOL - 1, LARGEST_POOL, LARGEST_POOL + 1, u16::MAX] {
+        assert!(sizes.contains(&size), "{size}");
+    }
 }
 
 #[test]

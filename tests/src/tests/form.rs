@@ -52,11 +52,12 @@ fn of_kind(kind: u8) -> Record {
     Record { kind, caller, amount: u32::from(kind == 18), ..Record::default() }
 }
 
-/// The bytes from 2 on that each kind uses, from 1 to 19.
+/// The bytes from 2 on that each kind uses, from 1 to 23. Of its data PUTPOOL uses none here: the caller's length is 0.
 fn used_bytes(kind: u8) -> Vec<usize> {
     let mut used: Vec<usize> = match kind {
         5 => (2..32).collect(),
-        1 | 4 | 8 | 9 | 11..=16 => vec![2, 3],
+        1 | 4 | 8 | 9 | 11..=16 | 21 => vec![2, 3],
+        22 | 23 => [2, 3].into_iter().chain(10..16).collect(),
         6 => vec![2, 3, 14, 15],
         18 => (10..14).collect(),
         _ => Vec::new(),
@@ -71,11 +72,46 @@ fn used_bytes(kind: u8) -> Vec<usize> {
 
 #[test]
 fn a_field_that_a_kind_does_not_use_is_zero() {
-    for kind in 1..=19 {
+    for kind in 1..=23 {
         assert!(with(&[], of_kind(kind)).is_ok(), "kind {kind}");
         for byte in 2..32 {
             let is_good = with(&[(32 + byte, 1)], of_kind(kind)).is_ok();
-            assert_eq!(is_good, used_bytes(kind).contains(&byte), "kind {kind} byte {byte}");
+            // A PUTPOOL cannot have the length that a 1 in these bytes says.
+            let is_long = kind == 23 && (11..14).contains(&byte);
+            assert_eq!(is_good, used_bytes(kind).contains(&byte) && !is_long, "kind {kind} byte {byte}");
+        }
+    }
+}
+
+/// Whether a PUTPOOL with this length of the caller's data may have these bytes set.
+fn is_good_put(length: u32, set: impl Iterator<Item = usize>) -> bool {
+    let mut put = Record { amount: length, ..of_kind(23) };
+    for place in set {
+        put.message[place] = 255;
+    }
+    with(&[], put).is_ok()
+}
+
+#[test]
+fn the_data_of_putpool() {
+    for length in 0..=16 {
+        assert!(is_good_put(length as u32, 0..length));
+        for place in 0..16 {
+            assert_eq!(is_good_put(length as u32, place..place + 1), place < length, "{length}, {place}");
+        }
+    }
+    for length in [17, 18, 255, 256, 65_536, 65_536 + 16, 0x8000_0000, u32::MAX] {
+        assert!(!is_good_put(length, 0..16), "length {length}");
+        assert!(!is_good_put(length, 0..0), "length {length}");
+    }
+}
+
+#[test]
+fn a_getpool_may_have_any_lengths() {
+    for length in [0, 17, 65_535, 65_536, u32::MAX] {
+        for second_parameter in [0, -1, i16::MIN, i16::MAX] {
+            let get = Record { first_parameter: -1, amount: length, second_parameter, ..of_kind(22) };
+            assert!(with(&[], get).is_ok(), "lengths {second_parameter} and {length}");
         }
     }
 }
@@ -90,12 +126,12 @@ fn the_flags_of_send_and_schedule() {
 
 #[test]
 fn kinds_callers_and_ticks() {
-    for kind in 20..=255 {
+    for kind in 24..=255 {
         assert!(with(&[], of_kind(kind)).is_err(), "kind {kind}");
     }
     assert!(with(&[(32, 0), (33, 255), (48, 255), (49, 255), (50, 255)], Record::default()).is_err());
     assert!(with(&[(42, 0)], of_kind(18)).is_err());
-    for kind in 1..=19 {
+    for kind in 1..=23 {
         assert_eq!(with(&[(33, 254)], of_kind(kind)).is_ok(), !matches!(kind, 15..=18), "kind {kind}");
     }
     assert!(with(&[(1, 0)], of_kind(2)).is_err());
@@ -103,10 +139,10 @@ fn kinds_callers_and_ticks() {
 
 #[test]
 fn the_fields_of_record_0() {
-    for byte in [8, 9, 25, 26, 27, 28, 29, 30, 31] {
+    for byte in [25, 26, 27, 28, 29, 30, 31] {
         assert!(with(&[(byte, 1)], of_kind(2)).is_err(), "byte {byte}");
     }
-    for byte in [2, 3, 4, 5, 6, 7, 10, 11, 12, 13, 14, 15] {
+    for byte in 2..16 {
         assert!(with(&[(byte, 200)], of_kind(2)).is_ok(), "byte {byte}");
     }
 }

@@ -7,6 +7,6 @@ use std::path::Path;
 fn golden_listings_are_the_model_s() {
     let folder = Path::new(env!("CARGO_MANIFEST_DIR")).join("golden");
     let golden = make(&folder).expect("good texts");
-    assert!(golden.len() >= 45 + 2);
+    assert!(golden.len() >= 118 + 2);
     assert_eq!(first_difference(&folder, &golden), Ok(None));
 }

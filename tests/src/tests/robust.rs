@@ -39,6 +39,36 @@ fn damaged_logs_have_a_listing_and_every_way_comes() {
     assert!(good > 100, "damage with a mended trailer is often a good log");
 }
 
+/// The listings of the logs that were damaged in this way, among those of some seeds.
+fn listings_of_way(way: &str) -> Vec<String> {
+    let logs = (0..2_000).map(damaged).filter(|damaged| damaged.way == way);
+    logs.map(|damaged| String::from_utf8_lossy(&listing(&damaged.log)).into_owned()).collect()
+}
+
+#[test]
+fn what_no_good_log_has_is_always_36() {
+    for way in
+        ["unknown kind, no field set", "PUTPOOL byte past its length", "unused field of a pool call set"]
+    {
+        assert!(listings_of_way(way).iter().all(|listing| listing == "36\n"), "{way}");
+    }
+}
+
+#[test]
+fn a_changed_pool_size_is_never_36() {
+    let listings = listings_of_way("another pool size");
+    assert!(listings.iter().all(|listing| listing.starts_with("log ")));
+    assert!(listings.iter().any(|listing| listing.ends_with("\n0 35\n")));
+    assert!(listings.iter().any(|listing| listing.contains("\n0 0\n")));
+}
+
+#[test]
+fn sixteen_bytes_fit_into_a_putpool_and_no_more() {
+    let listings = listings_of_way("PUTPOOL longer than its place");
+    let bad = listings.iter().filter(|listing| *listing == "36\n").count();
+    assert!(bad > listings.len() / 2 && bad < listings.len(), "{bad} of {}", listings.len());
+}
+
 /// The table after each record of a log; refusals other than 3 leave it as it was.
 fn check(seed: u64) {
     let records = generator::records(seed);

@@ -36,6 +36,14 @@ fn lines_that_come_back_as_they_were() {
         "start -1 priority 300",
         "event 256",
         "ticks 4294967295",
+        "2 INITPOOL",
+        "2 POOLCHECK -32768",
+        "2 GETPOOL at -1 length -32768 into 4294967295",
+        "2 GETPOOL at 32767 length 0 into 0",
+        "2 PUTPOOL at 0 length 0 data \"\"",
+        "2 PUTPOOL at -1 length 3 data \"abc\"",
+        "2 PUTPOOL at 5 length 16 data 6162630000",
+        "2 PUTPOOL at 5 length 16 data 00000000000000000000000000000000",
     ] {
         assert_eq!(again(line), Ok(line.to_string()));
     }
@@ -48,9 +56,17 @@ fn lines_that_have_a_shorter_form() {
         ("2 SEND to 3 always message 616263#text", "2 SEND to 3 always message \"abc\""),
         ("2 SEND to 3 always message \"ab\"", "2 SEND to 3 always message 6162"),
         ("2 RELSEMA -1", "2 RELSEMA all"),
+        ("2 PUTPOOL at 5 length 3 data 414243", "2 PUTPOOL at 5 length 3 data \"ABC\""),
+        ("2 PUTPOOL at 5 length 2 data \"AB\"", "2 PUTPOOL at 5 length 2 data 4142"),
     ] {
         assert_eq!(again(line), Ok(shorter.to_string()));
     }
+}
+
+/// The error names the line.
+fn assert_wrong(line: &str) {
+    let error = to_log(&format!("; a comment\n{FIRST}{line}\n; the end\n")).map(|_| ()).unwrap_err();
+    assert_eq!(error.line, 3, "{line}: {error}");
 }
 
 #[test]
@@ -99,14 +115,64 @@ fn lines_that_are_wrong() {
         "damage end 0",
         "damage trailer byte 0 value 256",
     ] {
-        let error = to_log(&format!("; a comment\n{FIRST}{line}\n; the end\n")).map(|_| ()).unwrap_err();
-        assert_eq!(error.line, 3, "{line}: {error}");
+        assert_wrong(line);
     }
+}
+
+#[test]
+fn pool_lines_that_are_wrong() {
+    for line in [
+        "2 INITPOOL 1",
+        "2 POOLCHECK",
+        "2 POOLCHECK 32768",
+        "2 POOLCHECK all",
+        "2 GETPOOL at 0 length 16",
+        "2 GETPOOL at 0 length 16 into -1",
+        "2 GETPOOL at 0 length 16 into 4294967296",
+        "2 GETPOOL at 0 length 32768 into 16",
+        "2 GETPOOL length 16 at 0 into 16",
+        "2 GETPOOL at 0 length 1 data 01",
+        "2 PUTPOOL at 0 length 1",
+        "2 PUTPOOL at 0 length 1 data",
+        "2 PUTPOOL at 0 length 1 data 1",
+        "2 PUTPOOL at 0 length 1 into 1",
+        "2 PUTPOOL at 0 length 17 data \"12345678901234567\"",
+        "2 PUTPOOL at 0 length 17 data 0102030405060708090a0b0c0d0e0f1011",
+    ] {
+        assert_wrong(line);
+    }
+}
+
+/// The first line of the text that a log with this line becomes.
+fn configured_again(line: &str) -> Option<String> {
+    let text = from_log(&to_log(&format!("{line}\n")).ok()?).ok()?;
+    text.lines().next().map(str::to_string)
+}
+
+#[test]
+fn the_size_of_the_pool_in_a_configuration() {
+    let first = FIRST.trim_end();
+    for size in [1, 4_096, 4_097, 65_535] {
+        let line = format!("{first} pool {size}");
+        assert_eq!(configured_again(&line), Some(line));
+        let line = format!("{first} pool {size} privileged 2 inputs 0..7");
+        assert_eq!(configured_again(&line), Some(line));
+    }
+    for line in [first.to_string(), format!("{first} pool 0")] {
+        assert_eq!(configured_again(&line).as_deref(), Some(first));
+    }
+    let log = to_log(&format!("{first} pool 4097\n")).expect("a good text");
+    assert_eq!(log[8..10], [1, 16]);
 }
 
 #[test]
 fn configurations_that_are_wrong() {
     for line in [
+        "configuration lowest 2 processes 2 scheduler 11 places 1 orders 2 card 8 clock 0 pool",
+        "configuration lowest 2 processes 2 scheduler 11 places 1 orders 2 card 8 clock 0 pool -1",
+        "configuration lowest 2 processes 2 scheduler 11 places 1 orders 2 card 8 clock 0 pool 65536",
+        "configuration lowest 2 processes 2 scheduler 11 places 1 orders 2 card 8 pool 1 clock 0",
+        "configuration lowest 2 processes 2 scheduler 11 places 1 orders 2 card 8 clock 0 privileged 2 inputs 0..0 pool 1",
         "",
         "2 RECEIVE",
         "damage sum",

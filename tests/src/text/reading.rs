@@ -55,6 +55,23 @@ fn configuration(line: &mut Line) -> Result<Record, String> {
     let card = named(line, "card")?;
     line.expect("clock")?;
     let clock = moment::read_clock(&line.plain("the clock")?)?;
+    let pool_size = if line.takes("pool") { line.number("the pool's size")? } else { 0 };
+    let privileged = privileged_places(line)?;
+    let configuration = Configuration {
+        lowest,
+        processes,
+        scheduler,
+        message_places,
+        order_places,
+        card,
+        clock,
+        pool_size,
+        privileged,
+    };
+    Ok(configuration.to_record())
+}
+
+fn privileged_places(line: &mut Line) -> Result<Vec<Privileged>, String> {
     let mut privileged = Vec::new();
     while line.takes("privileged") {
         privileged.push(privileged_place(line)?);
@@ -62,9 +79,7 @@ fn configuration(line: &mut Line) -> Result<Record, String> {
     if privileged.len() > 3 {
         return Err("more than three privileged processes".to_string());
     }
-    let configuration =
-        Configuration { lowest, processes, scheduler, message_places, order_places, card, clock, privileged };
-    Ok(configuration.to_record())
+    Ok(privileged)
 }
 
 fn privileged_place(line: &mut Line) -> Result<Privileged, String> {
@@ -101,6 +116,10 @@ fn call(caller: u8, line: &mut Line) -> Result<Record, String> {
         "REQSEMA" => with(kind::REQSEMA, line.number("the semaphore")?),
         "RELSEMA" => with(kind::RELSEMA, line.number_or("the semaphore", "all")?),
         "READTIME" => plain(kind::READTIME),
+        "INITPOOL" => plain(kind::INITPOOL),
+        "POOLCHECK" => with(kind::POOLCHECK, line.number("the length")?),
+        "GETPOOL" => get_pool(caller, line),
+        "PUTPOOL" => put_pool(caller, line),
         unknown => Err(format!("unknown call `{unknown}`")),
     }
 }
@@ -169,4 +188,24 @@ fn cancel(caller: u8, line: &mut Line) -> Result<Record, String> {
     let second_parameter = line.number_or("the sender", "any")?;
     let kind = kind::CANCELSCHEDULE;
     Ok(Record { kind, caller, first_parameter, second_parameter, ..Record::default() })
+}
+
+/// The offset and the length of a part of the pool.
+fn part(kind: u8, caller: u8, line: &mut Line) -> Result<Record, String> {
+    let first_parameter = named(line, "at")?;
+    let second_parameter = named(line, "length")?;
+    Ok(Record { kind, caller, first_parameter, second_parameter, ..Record::default() })
+}
+
+fn get_pool(caller: u8, line: &mut Line) -> Result<Record, String> {
+    let part = part(kind::GETPOOL, caller, line)?;
+    Ok(Record { amount: named(line, "into")?, ..part })
+}
+
+/// The caller's length is the number of the bytes that stand there.
+fn put_pool(caller: u8, line: &mut Line) -> Result<Record, String> {
+    let part = part(kind::PUTPOOL, caller, line)?;
+    line.expect("data")?;
+    let (message, amount) = message::read_data(line.word("the data")?)?;
+    Ok(Record { amount, message, ..part })
 }

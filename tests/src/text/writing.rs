@@ -3,7 +3,7 @@
 use super::message;
 use super::moment::{self, Moment};
 use crate::executive::configuration::Configuration;
-use crate::log::{kind, Record};
+use crate::log::{data_length, kind, Record};
 
 /// The names of the calls of processes, by their kinds.
 fn call_name(kind: u8) -> Option<&'static str> {
@@ -23,6 +23,10 @@ fn call_name(kind: u8) -> Option<&'static str> {
         kind::REQSEMA => "REQSEMA",
         kind::RELSEMA => "RELSEMA",
         kind::READTIME => "READTIME",
+        kind::INITPOOL => "INITPOOL",
+        kind::POOLCHECK => "POOLCHECK",
+        kind::GETPOOL => "GETPOOL",
+        kind::PUTPOOL => "PUTPOOL",
         _ => return None,
     })
 }
@@ -54,14 +58,17 @@ pub fn record(record: &Record) -> String {
 }
 
 fn configuration(configuration: &Configuration) -> String {
-    let Configuration { lowest, processes, scheduler, message_places, order_places, card, clock, privileged } =
+    let Configuration { lowest, processes, scheduler, message_places, order_places, card, clock, .. } =
         configuration;
     let clock = moment::write_clock(*clock);
     let mut text = format!(
         "configuration lowest {lowest} processes {processes} scheduler {scheduler} \
          places {message_places} orders {order_places} card {card} clock {clock}"
     );
-    for place in privileged {
+    if configuration.pool_size > 0 {
+        text.push_str(&format!(" pool {}", configuration.pool_size));
+    }
+    for place in &configuration.privileged {
         let (level, first, last) = (place.level, place.first_input, place.last_input);
         text.push_str(&format!(" privileged {level} inputs {first}..{last}"));
     }
@@ -81,8 +88,16 @@ fn parameters(record: &Record) -> String {
         kind::CANCELSCHEDULE => {
             format!(" to {first} from {}", number_or(record.second_parameter, "any"))
         }
-        kind::ENABLE | kind::DISABLE | kind::RESETINT | kind::SETPRIORITY | kind::REQSEMA => {
-            format!(" {first}")
+        kind::ENABLE
+        | kind::DISABLE
+        | kind::RESETINT
+        | kind::SETPRIORITY
+        | kind::REQSEMA
+        | kind::POOLCHECK => format!(" {first}"),
+        kind::GETPOOL => format!("{} into {}", part(record), record.amount),
+        kind::PUTPOOL => {
+            let data = &record.message[..data_length(record)];
+            format!("{} data {}", part(record), message::write_data(data))
         }
         _ => String::new(),
     }
@@ -122,4 +137,9 @@ fn schedule(record: &Record) -> String {
         record.second_parameter,
         message::write(&record.message)
     )
+}
+
+/// The part of the pool that a transfer names.
+fn part(record: &Record) -> String {
+    format!(" at {} length {}", record.first_parameter, record.second_parameter)
 }

@@ -5,12 +5,15 @@ use Rattle.table.proofs.Table.fresh.Tie as tie
 
 returns : tie.Need-returns
 unfolding freshOf
-returns c = rw (c .before .before .before .before .fresh .ensures, c .before .before .before .none .ensures, c .before .before .fresh2 .ensures, c .before .empty .ensures, c .empty2 .ensures)
+returns c =
+    let made = c .before in
+    rw (made .before .before .before .before .fresh .ensures, made .before .before .before .none .ensures, made .before .before .fresh2 .ensures, made .before .empty .ensures, made .empty2 .ensures, c .fresh3 .ensures)
 
 pub fresh-spec : {M : Type 1} → statement M
 fresh-spec =
     tie.close
     (tie.spec
+    (λ c κs. search needs)
     (λ c κs. search needs)
     (λ c κs. search needs)
     (λ c κs. search needs)

@@ -5,7 +5,9 @@ use Rattle.table.proofs.configs.Config.good.Tie as tie
 
 returns : tie.Need-returns
 unfolding goodOf
-returns c = rw (c .before .before .before .before .levels-good .ensures, c .before .before .before .scheduler-good .ensures, c .before .before .places-good .ensures, c .before .privileged-good .ensures)
+returns c =
+    let all = c .before .before in
+    rw (all .before .before .before .levels-good .ensures, all .before .before .scheduler-good .ensures, all .before .places-good .ensures, all .privileged-good .ensures)
 
 pub good-spec : {M : Type 1} → statement M
 good-spec =

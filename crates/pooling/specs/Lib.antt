@@ -1,0 +1,2 @@
+pub mod Pooling
+pub mod Deciding

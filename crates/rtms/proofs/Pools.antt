@@ -1,0 +1,64 @@
+-- What a refused call leaves of the pool and of the caller's buffer: all of them. Assumes nothing.
+use mathlib.Core.Path.{_≡_, refl}
+use mathlib.Core.Bool.{Bool, true, false, not, _&&_}
+use mathlib.Core.List.{List}
+use Prim.Native.Nat.{ℕ}
+use lib.Dec.{eqb, leb}
+use lib.ListN.{length}
+use Rattle.common.proofs.Cases.{by-test, both-true, never-both}
+use Rattle.table.specs.declared.answers.Answer.{Answer}
+use Rattle.table.specs.declared.answers.Answer.the-variants.{BadConfig}
+use Rattle.table.specs.declared.Table.{Table}
+use Rattle.table.specs.Answers.{numberOf, refusalOf}
+use Rattle.pooling.specs.Pooling.{granted, poolBy, bufferBy}
+use Rattle.rtms.specs.Calls.{Call, START, SETPRIORITY, SEND, RECEIVE, AWAITMESSAGE, CLEARMESSAGE, SCHEDULE, CANCELSCHEDULE, SHUTDOWN, STARTSCHEDULER, READTIME, ENABLE, DISABLE, AWAITINTERRUPT, RESETINT, EVENT, REQSEMA, RELSEMA, INITPOOL, POOLCHECK, GETPOOL, PUTPOOL, TICK, TICKS, doneBy}
+use Rattle.rtms.specs.Pools.{lentOf, pooledBy}
+use Rattle.rtms.specs.Refusals.{Plain}
+use Rattle.rtms.proofs.Refusing.{refusals}
+
+-- a refusal is not answered 0
+refused-not-granted : (answer : Answer) → refusalOf answer ≡ true → granted answer ≡ false
+unfolding refusalOf
+refused-not-granted answer refused = by-test (granted answer) (λ e. absurd (never-both refused (rw e))) (λ e. e)
+
+-- "a refused GETPOOL leaves the caller's buffer untouched"
+pub refused-buffer : (answer : Answer) (pool : List ℕ) (offset : ℕ) (buffer : List ℕ) → refusalOf answer ≡ true → bufferBy answer pool offset buffer ≡ buffer
+unfolding bufferBy
+refused-buffer answer pool offset buffer refused = rw (refused-not-granted answer refused)
+
+refused-put : (answer : Answer) (pool : List ℕ) (offset : ℕ) (given : List ℕ) → refusalOf answer ≡ true → poolBy answer pool offset given ≡ pool
+unfolding poolBy
+refused-put answer pool offset given refused = rw (refused-not-granted answer refused)
+
+-- "every other refusal changes nothing": nor does number 3 touch the pool
+pub refused-pool : (call : Call) (answer : Answer) (pool : List ℕ) → refusalOf answer ≡ true → pooledBy call answer pool ≡ pool
+refused-pool (PUTPOOL caller offset count given) answer pool refused = refused-put answer pool offset given refused
+refused-pool (INITPOOL caller) answer pool refused = refl
+refused-pool (POOLCHECK caller stated) answer pool refused = refl
+refused-pool (GETPOOL caller offset count own) answer pool refused = refl
+refused-pool (START level priority) answer pool refused = refl
+refused-pool (SETPRIORITY caller priority) answer pool refused = refl
+refused-pool (SEND caller receiver condition m) answer pool refused = refl
+refused-pool (RECEIVE caller) answer pool refused = refl
+refused-pool (AWAITMESSAGE caller) answer pool refused = refl
+refused-pool (CLEARMESSAGE caller receiver) answer pool refused = refl
+refused-pool (SCHEDULE caller new) answer pool refused = refl
+refused-pool (CANCELSCHEDULE caller sender receiver) answer pool refused = refl
+refused-pool (SHUTDOWN caller) answer pool refused = refl
+refused-pool STARTSCHEDULER answer pool refused = refl
+refused-pool (READTIME caller) answer pool refused = refl
+refused-pool (ENABLE caller input) answer pool refused = refl
+refused-pool (DISABLE caller input) answer pool refused = refl
+refused-pool (AWAITINTERRUPT caller) answer pool refused = refl
+refused-pool (RESETINT caller input) answer pool refused = refl
+refused-pool (EVENT input) answer pool refused = refl
+refused-pool (REQSEMA caller number) answer pool refused = refl
+refused-pool (RELSEMA caller number) answer pool refused = refl
+refused-pool TICK answer pool refused = refl
+refused-pool (TICKS n) answer pool refused = refl
+
+-- and a call that a pool is lent for is refused plainly, as every other is
+pub lent-refusals : (call : Call) (t : Table) (pool : List ℕ) → Plain t (lentOf call t pool)
+unfolding lentOf Plain
+lent-refusals call t pool =
+    by-test (leb (t .config .pool) (length pool)) (λ e. rw e (refusals call t)) (λ e. rw e (λ refused other. refl))

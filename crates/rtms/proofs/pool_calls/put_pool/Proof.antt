@@ -1,0 +1,41 @@
+use mathlib.Core.Path.{_∙_, sym, ap}
+use borrow.Author.Needs.{needs}
+use denote.Ref.{now}
+use Rattle.table.specs.declared.Outcome.{Outcome}
+use Rattle.table.specs.Table.{refusedOf}
+use Rattle.pooling.specs.Pooling.{poolBy}
+use Rattle.rtms.specs.Calls.{PUTPOOL}
+use Rattle.rtms.proofs.Guarding.{lent-sound, lent-broken}
+use Rattle.rtms.proofs.pool_calls.put_pool.Statement.{statement}
+use Rattle.rtms.proofs.pool_calls.put_pool.Tie as tie
+
+returns : tie.Need-returns
+returns c =
+    let called = c .before .before in
+    let tested = called .before .before in
+    let args = tested .before .before .before .before .args in (
+      lent-sound (PUTPOOL (args .caller) (args .offset) (args .count) (now (args .given))) _ (now (args .pool)) _ (sym (tested .before .lent .ensures) ∙ tested .if1 .taken)
+          (called .put-pool .ensures .0),
+      called .put-pool .ensures .1,
+    )
+
+returns-2 : tie.Need-returns-2
+unfolding poolBy refusedOf
+returns-2 c =
+    let tested = c .before in
+    let args = tested .before .before .before .before .args in (
+      lent-broken (PUTPOOL (args .caller) (args .offset) (args .count) (now (args .given))) _ (now (args .pool)) _ (sym (tested .before .lent .ensures) ∙ tested .if1 .left)
+          (c .refused .ensures),
+      sym (ap (λ (o : Outcome). poolBy (o .answer) (now (args .pool)) (args .offset) (now (args .given))) (c .refused .ensures)),
+    )
+
+pub put-pool-spec : {M : Type 1} → statement M
+put-pool-spec =
+    tie.close
+    (tie.spec
+    (λ c κs. search needs)
+    (λ c κs. search needs)
+    (λ c κs. search needs)
+    (λ c. search needs)
+    returns
+    returns-2)
