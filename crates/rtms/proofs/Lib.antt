@@ -1,3 +1,4 @@
+pub mod Granting
 pub mod Guarding
 pub mod Refusing
 pub mod Pools

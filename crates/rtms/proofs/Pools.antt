@@ -1,18 +1,18 @@
 -- What a refused call leaves of the pool and of the caller's buffer: all of them. Assumes nothing.
-use mathlib.Core.Path.{_≡_, refl}
-use mathlib.Core.Bool.{Bool, true, false, not, _&&_}
+use mathlib.Core.Path.{_≡_, _∙_, refl, sym}
+use mathlib.Core.Bool.{true, false}
 use mathlib.Core.List.{List}
 use Prim.Native.Nat.{ℕ}
-use lib.Dec.{eqb, leb}
+use lib.Dec.{leb}
 use lib.ListN.{length}
-use Rattle.common.proofs.Cases.{by-test, both-true, never-both}
+use Rattle.common.proofs.Cases.{by-test, never-both}
 use Rattle.table.specs.declared.answers.Answer.{Answer}
-use Rattle.table.specs.declared.answers.Answer.the-variants.{BadConfig}
+use Rattle.table.specs.declared.Outcome.{Outcome}
 use Rattle.table.specs.declared.Table.{Table}
-use Rattle.table.specs.Answers.{numberOf, refusalOf}
+use Rattle.table.specs.Answers.{refusalOf}
 use Rattle.pooling.specs.Pooling.{granted, poolBy, bufferBy}
-use Rattle.rtms.specs.Calls.{Call, START, SETPRIORITY, SEND, RECEIVE, AWAITMESSAGE, CLEARMESSAGE, SCHEDULE, CANCELSCHEDULE, SHUTDOWN, STARTSCHEDULER, READTIME, ENABLE, DISABLE, AWAITINTERRUPT, RESETINT, EVENT, REQSEMA, RELSEMA, INITPOOL, POOLCHECK, GETPOOL, PUTPOOL, TICK, TICKS, doneBy}
-use Rattle.rtms.specs.Pools.{lentOf, pooledBy}
+use Rattle.rtms.specs.Calls.{Call, START, SETPRIORITY, SEND, RECEIVE, AWAITMESSAGE, CLEARMESSAGE, SCHEDULE, CANCELSCHEDULE, SHUTDOWN, STARTSCHEDULER, READTIME, ENABLE, DISABLE, AWAITINTERRUPT, RESETINT, EVENT, REQSEMA, RELSEMA, INITPOOL, POOLCHECK, GETPOOL, PUTPOOL, TICK, TICKS}
+use Rattle.rtms.specs.Pools.{lentOf, lentAnswer, pooledBy}
 use Rattle.rtms.specs.Refusals.{Plain}
 use Rattle.rtms.proofs.Refusing.{refusals}
 
@@ -30,7 +30,7 @@ refused-put : (answer : Answer) (pool : List ℕ) (offset : ℕ) (given : List �
 unfolding poolBy
 refused-put answer pool offset given refused = rw (refused-not-granted answer refused)
 
--- "every other refusal changes nothing": nor does number 3 touch the pool
+-- "every other refusal changes nothing": no refusal touches the pool, number 3 neither
 pub refused-pool : (call : Call) (answer : Answer) (pool : List ℕ) → refusalOf answer ≡ true → pooledBy call answer pool ≡ pool
 refused-pool (PUTPOOL caller offset count given) answer pool refused = refused-put answer pool offset given refused
 refused-pool (INITPOOL caller) answer pool refused = refl
@@ -62,3 +62,7 @@ pub lent-refusals : (call : Call) (t : Table) (pool : List ℕ) → Plain t (len
 unfolding lentOf Plain
 lent-refusals call t pool =
     by-test (leb (t .config .pool) (length pool)) (λ e. rw e (refusals call t)) (λ e. rw e (λ refused other. refl))
+
+-- two results for one input are equal, for these too
+pub lent-determined : (call : Call) (t : Table) (pool : List ℕ) (r s : Outcome) → r ≡ lentAnswer call t pool → s ≡ lentAnswer call t pool → r ≡ s
+lent-determined call t pool r s first second = first ∙ sym second
