@@ -10,6 +10,9 @@ pub const UNUSED: u8 = 255;
 // -1 as a 16-bit word: all, where one level could stand.
 pub const MINUS_ONE: u16 = 65_535;
 
+// The 16-bit words of numbers below 0 begin here.
+pub const NEGATIVE: u16 = 32_768;
+
 // A privileged process and its run of inputs.
 pub struct Privileged {
     pub level: u8,

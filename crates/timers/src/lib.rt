@@ -33,9 +33,7 @@ pub struct NewOrder {
     pub message: Message,
 }
 
-// The words of numbers below 0 begin here, in 16 bits and in 32.
-const NEGATIVE: u16 = 32_768;
-
+// The 32-bit words of numbers below 0 begin here.
 const LONG_NEGATIVE: u32 = 2_147_483_648;
 
 // When an order is first to be carried out, as far as its fields tell.
@@ -137,7 +135,7 @@ fn schedule_checked(
 {
     let process = calls::process_at(processes, caller as u16);
     let backward = LONG_NEGATIVE <= new.to;
-    let negative = NEGATIVE <= new.count;
+    let negative = configs::NEGATIVE <= new.count;
     calls::caller_checked(config, process, caller)
         .check(config.has_level(new.receiver), Answer::ReceiverUnknown)
         .check(!backward, Answer::ParameterError)
