@@ -10,13 +10,13 @@ use borrow.Author.Tests.{eqb-true, leb-true, le-leb}
 use Rattle.common.proofs.Cases.{by-test, both-true, never-both}
 use Rattle.pool.specs.Parts.{partOf, lies, putOf, getOf}
 use Rattle.table.specs.declared.answers.Answer.{Answer}
-use Rattle.table.specs.declared.answers.Answer.the-variants.{BadConfig, NoUser, NotReady, NoPoolInit, PoolOverflow, DataLengthFault, PoolLengthFault}
+use Rattle.table.specs.declared.answers.Answer.the-variants.{NoUser, NotReady, NoPoolInit, PoolOverflow, DataLengthFault, PoolLengthFault}
 use Rattle.table.specs.declared.Table.{Table}
 use Rattle.table.specs.Sound.{soundOf}
 use Rattle.table.specs.Words.{negative16}
 use Rattle.calls.specs.declared.Verdict.{Verdict}
 use Rattle.calls.specs.declared.Verdict.the-variants.{Passed, Refused}
-use Rattle.calls.specs.Effects.{Effect, refuse}
+use Rattle.calls.specs.Effects.{Effect}
 use Rattle.calls.specs.Levels.{processOf}
 use Rattle.calls.specs.Verdicts.{alsoOf, after, obeyed, byCaller}
 use Rattle.calls.proofs.Obeying.{last-passed}

@@ -19,7 +19,7 @@ use Rattle.semaphores.specs.Semaphores.{free, freshOf as freshSemaphores}
 use Rattle.table.specs.declared.configs.Config.{Config}
 use Rattle.table.specs.Configuration.{levelsGood, schedulerGood, placesGood, allPrivilegedGood, poolGood, configuredOf, goodOf}
 use Rattle.table.specs.Table.{freshOf}
-use Rattle.table.specs.Sound.{timesOf, noProcess, levelSound, levelsSound, ordersSound, holderSound, holdersSound, queueSound, lengthSound, lengthsSound, poolSound, soundOf}
+use Rattle.table.specs.Sound.{timesOf, noProcess, levelSound, levelsSound, ordersSound, holderSound, holdersSound, queueSound, lengthsSound, poolSound, soundOf}
 use Rattle.table.proofs.Empty.{empty-on-card}
 
 module _ (c : Config) where
