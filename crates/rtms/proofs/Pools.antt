@@ -11,8 +11,8 @@ use Rattle.table.specs.declared.Outcome.{Outcome}
 use Rattle.table.specs.declared.Table.{Table}
 use Rattle.table.specs.Answers.{refusalOf}
 use Rattle.pooling.specs.Pooling.{granted, poolBy, bufferBy}
-use Rattle.rtms.specs.Calls.{Call, START, SETPRIORITY, SEND, RECEIVE, AWAITMESSAGE, CLEARMESSAGE, SCHEDULE, CANCELSCHEDULE, SHUTDOWN, STARTSCHEDULER, READTIME, ENABLE, DISABLE, AWAITINTERRUPT, RESETINT, EVENT, REQSEMA, RELSEMA, INITPOOL, POOLCHECK, GETPOOL, PUTPOOL, TICK, TICKS}
-use Rattle.rtms.specs.Pools.{lentOf, lentAnswer, pooledBy}
+use Rattle.rtms.specs.Calls.{Call}
+use Rattle.rtms.specs.Pools.{Put, puts, nothing, putsOf, afterPut, lentOf, lentAnswer, pooledBy}
 use Rattle.rtms.specs.Refusals.{Plain}
 use Rattle.rtms.proofs.Refusing.{refusals}
 
@@ -32,30 +32,11 @@ refused-put answer pool offset given refused = rw (refused-not-granted answer re
 
 -- "every other refusal changes nothing": no refusal touches the pool, number 3 neither
 pub refused-pool : (call : Call) (answer : Answer) (pool : List ℕ) → refusalOf answer ≡ true → pooledBy call answer pool ≡ pool
-refused-pool (PUTPOOL caller offset count given) answer pool refused = refused-put answer pool offset given refused
-refused-pool (INITPOOL caller) answer pool refused = refl
-refused-pool (POOLCHECK caller stated) answer pool refused = refl
-refused-pool (GETPOOL caller offset count own) answer pool refused = refl
-refused-pool (START level priority) answer pool refused = refl
-refused-pool (SETPRIORITY caller priority) answer pool refused = refl
-refused-pool (SEND caller receiver condition m) answer pool refused = refl
-refused-pool (RECEIVE caller) answer pool refused = refl
-refused-pool (AWAITMESSAGE caller) answer pool refused = refl
-refused-pool (CLEARMESSAGE caller receiver) answer pool refused = refl
-refused-pool (SCHEDULE caller new) answer pool refused = refl
-refused-pool (CANCELSCHEDULE caller sender receiver) answer pool refused = refl
-refused-pool (SHUTDOWN caller) answer pool refused = refl
-refused-pool STARTSCHEDULER answer pool refused = refl
-refused-pool (READTIME caller) answer pool refused = refl
-refused-pool (ENABLE caller input) answer pool refused = refl
-refused-pool (DISABLE caller input) answer pool refused = refl
-refused-pool (AWAITINTERRUPT caller) answer pool refused = refl
-refused-pool (RESETINT caller input) answer pool refused = refl
-refused-pool (EVENT input) answer pool refused = refl
-refused-pool (REQSEMA caller number) answer pool refused = refl
-refused-pool (RELSEMA caller number) answer pool refused = refl
-refused-pool TICK answer pool refused = refl
-refused-pool (TICKS n) answer pool refused = refl
+refused-pool call answer pool refused = by-put (putsOf call)
+  where
+    by-put : (put : Put) → afterPut put answer pool ≡ pool
+    by-put (puts offset given) = refused-put answer pool offset given refused
+    by-put nothing = refl
 
 -- and a call that a pool is lent for is refused plainly, as every other is
 pub lent-refusals : (call : Call) (t : Table) (pool : List ℕ) → Plain t (lentOf call t pool)

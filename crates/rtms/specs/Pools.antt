@@ -20,29 +20,41 @@ lentOf call t pool = pick (leb (t .config .pool) (length pool)) (doneBy call t) 
 unfoldable pub lentAnswer : Call → Table → List ℕ → Outcome
 lentAnswer call t pool = outcomeOf (lentOf call t pool)
 
--- the pool after a call with such an answer: PUTPOOL alone writes into it
+-- what a call would put into the pool: PUTPOOL alone something, its data from its offset on
+pub data Put : Type 0 where
+  puts : ℕ → List ℕ → Put
+  nothing : Put
+
+abbrev pub putsOf : Call → Put
+putsOf (PUTPOOL caller offset count given) = puts offset given
+putsOf (INITPOOL caller) = nothing
+putsOf (POOLCHECK caller stated) = nothing
+putsOf (GETPOOL caller offset count own) = nothing
+putsOf (START level priority) = nothing
+putsOf (SETPRIORITY caller priority) = nothing
+putsOf (SEND caller receiver condition m) = nothing
+putsOf (RECEIVE caller) = nothing
+putsOf (AWAITMESSAGE caller) = nothing
+putsOf (CLEARMESSAGE caller receiver) = nothing
+putsOf (SCHEDULE caller new) = nothing
+putsOf (CANCELSCHEDULE caller sender receiver) = nothing
+putsOf (SHUTDOWN caller) = nothing
+putsOf STARTSCHEDULER = nothing
+putsOf (READTIME caller) = nothing
+putsOf (ENABLE caller input) = nothing
+putsOf (DISABLE caller input) = nothing
+putsOf (AWAITINTERRUPT caller) = nothing
+putsOf (RESETINT caller input) = nothing
+putsOf (EVENT input) = nothing
+putsOf (REQSEMA caller number) = nothing
+putsOf (RELSEMA caller number) = nothing
+putsOf TICK = nothing
+putsOf (TICKS n) = nothing
+
+-- the pool after a call with such an answer
+abbrev pub afterPut : Put → Answer → List ℕ → List ℕ
+afterPut (puts offset given) answer pool = poolBy answer pool offset given
+afterPut nothing answer pool = pool
+
 abbrev pub pooledBy : Call → Answer → List ℕ → List ℕ
-pooledBy (PUTPOOL caller offset count given) answer pool = poolBy answer pool offset given
-pooledBy (INITPOOL caller) answer pool = pool
-pooledBy (POOLCHECK caller stated) answer pool = pool
-pooledBy (GETPOOL caller offset count own) answer pool = pool
-pooledBy (START level priority) answer pool = pool
-pooledBy (SETPRIORITY caller priority) answer pool = pool
-pooledBy (SEND caller receiver condition m) answer pool = pool
-pooledBy (RECEIVE caller) answer pool = pool
-pooledBy (AWAITMESSAGE caller) answer pool = pool
-pooledBy (CLEARMESSAGE caller receiver) answer pool = pool
-pooledBy (SCHEDULE caller new) answer pool = pool
-pooledBy (CANCELSCHEDULE caller sender receiver) answer pool = pool
-pooledBy (SHUTDOWN caller) answer pool = pool
-pooledBy STARTSCHEDULER answer pool = pool
-pooledBy (READTIME caller) answer pool = pool
-pooledBy (ENABLE caller input) answer pool = pool
-pooledBy (DISABLE caller input) answer pool = pool
-pooledBy (AWAITINTERRUPT caller) answer pool = pool
-pooledBy (RESETINT caller input) answer pool = pool
-pooledBy (EVENT input) answer pool = pool
-pooledBy (REQSEMA caller number) answer pool = pool
-pooledBy (RELSEMA caller number) answer pool = pool
-pooledBy TICK answer pool = pool
-pooledBy (TICKS n) answer pool = pool
+pooledBy call answer pool = afterPut (putsOf call) answer pool
