@@ -12,7 +12,7 @@ fn model() -> Side {
     Side { name: "model", listing: Box::new(rtms_tests::listing::listing) }
 }
 
-#[cfg(all(feature = "in-process", target_arch = "x86_64"))]
+#[cfg(feature = "in-process")]
 pub fn all() -> Vec<Side> {
     let mut room = rtms_tests::in_process::room();
     // A listing that is too long is none, and so differs from the model's.
@@ -23,7 +23,7 @@ pub fn all() -> Vec<Side> {
     vec![model(), Side { name: "proved", listing: Box::new(proved) }]
 }
 
-#[cfg(not(all(feature = "in-process", target_arch = "x86_64")))]
+#[cfg(not(feature = "in-process"))]
 pub fn all() -> Vec<Side> {
     vec![model()]
 }

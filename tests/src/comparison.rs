@@ -83,15 +83,15 @@ fn other_listings(other: &Other, logs: &[Vec<u8>]) -> Result<(Vec<Vec<u8>>, Opti
     }
 }
 
-#[cfg(all(feature = "in-process", target_arch = "x86_64"))]
+#[cfg(feature = "in-process")]
 fn in_process_listings(logs: &[Vec<u8>]) -> Result<Vec<Vec<u8>>, String> {
     let listings = logs.iter().map(|log| crate::in_process::listing(log));
     listings.collect::<Option<_>>().ok_or_else(|| "a listing of the library is too long".to_string())
 }
 
-#[cfg(not(all(feature = "in-process", target_arch = "x86_64")))]
+#[cfg(not(feature = "in-process"))]
 fn in_process_listings(_: &[Vec<u8>]) -> Result<Vec<Vec<u8>>, String> {
-    Err("--in-process needs the feature in-process, on x86-64".to_string())
+    Err("--in-process needs the feature in-process".to_string())
 }
 
 fn told(options: &Options, subject: Subject, difference: &Difference) -> String {

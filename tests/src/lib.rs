@@ -12,7 +12,7 @@ pub mod effort;
 pub mod executive;
 pub mod generator;
 pub mod golden;
-#[cfg(all(feature = "in-process", target_arch = "x86_64"))]
+#[cfg(feature = "in-process")]
 pub mod in_process;
 pub mod listing;
 pub mod log;
