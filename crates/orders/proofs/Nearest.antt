@@ -6,6 +6,7 @@ use Prim.Native.Nat.{ℕ, _<_, min}
 use native.Mathlib.Omega.{arith}
 use borrow.Author.Tests.{eq-eqb, ne-eqb, leb-true, leb-false}
 use lib.Dec.{leb}
+use lib.ListN.{length}
 use Rattle.common.specs.Choice.{pick}
 use Rattle.common.specs.Keep.{keepOf}
 use Rattle.common.proofs.Cases.{by-test}
@@ -13,7 +14,8 @@ use Rattle.day.specs.declared.TimeOfDay.{TimeOfDay}
 use Rattle.day.specs.TimeOfDay.{at, day, forwardOf, untilOf}
 use Rattle.day.proofs.Until.{until-not-before, until-arrives}
 use Rattle.orders.specs.declared.Order.{Order}
-use Rattle.orders.specs.Advance.{dueAt, dueOf, onwardOf, leftsOf, advancing, nextDue}
+use Rattle.orders.specs.Advance.{dueAt, dueOf, advancing, nextDue}
+use Rattle.orders.proofs.Tables.{undue-same}
 
 -- an order is not due before its moment
 not-due : (clock : TimeOfDay) (x : Order) (n : ℕ) → 0 < n → n < untilOf clock (x .due) → dueAt (forwardOf clock n) x ≡ false
@@ -30,9 +32,7 @@ module _ (clock : TimeOfDay) (n : ℕ) (some : 0 < n) where
 
   -- and no order changes
   pub quiet-same : (l : List Order) → n < nextDue clock l → advancing (forwardOf clock n) l ≡ l
-  unfolding nextDue leftsOf onwardOf
-  quiet-same [] before = refl
-  quiet-same (x ∷ l) before = rw (not-due clock x n some (omega arith)) (ap (_∷_ x) (quiet-same l (omega arith)))
+  quiet-same l before = undue-same (forwardOf clock n) l (ap length (quiet-none l before))
 
 -- the orders' moments are times of day
 abbrev pub OfDay : List Order → Type 0

@@ -55,8 +55,9 @@ leftsOf onward (x ∷ l) = leftOf (onward x) ++ leftsOf onward l
 abbrev pub advancing : TimeOfDay → List Order → List Order
 advancing now l = leftsOf (onwardOf now) l
 
+-- a moment at which none is due leaves the orders as they are, free places too
 unfoldable pub advanceOf : TimeOfDay → Orders → Orders
-advanceOf now o = ordersOf (advancing now (standingOf o))
+advanceOf now o = pick (eqb (dueCountOf now o) 0) o (ordersOf (advancing now (standingOf o)))
 
 -- how long until the next moment at which an order is due: a day at most
 unfoldable pub nextDue : TimeOfDay → List Order → ℕ

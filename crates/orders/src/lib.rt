@@ -2,8 +2,8 @@
 ghost use mathlib.Core.Path.{_≡_};
 ghost use Prim.Native.Nat.{_-_};
 ghost use Rattle.orders.specs.Moments.{intervalOf, delayOf};
-ghost use Rattle.orders.specs.Orders.{noneOf, pushOf, pushIfOf, acceptOf};
-ghost use Rattle.orders.specs.Advance.{dueAt, againOf, onwardOf, advanceOf, dueCountOf, nextDueOf};
+ghost use Rattle.orders.specs.Orders.{standingOf, ordersOf, noneOf, pushOf, pushIfOf, acceptOf};
+ghost use Rattle.orders.specs.Advance.{dueAt, againOf, onwardOf, advancing, advanceOf, dueCountOf, nextDueOf};
 ghost use Rattle.orders.specs.Cancel.{cancelledNumber, isFrom, matchesOf, howManyOf, withoutOf, removedOf, toReceiver, cancelOf};
 use day::TimeOfDay;
 use process::Condition;
@@ -236,9 +236,9 @@ impl Orders {
         if stays { self.push(order) } else { self }
     }
 
-    // After a moment: what became of each order, in order of acceptance.
-    pub fn advance(self, now: TimeOfDay) -> Orders
-        ensures { λ r. ⌜ r ≡ advanceOf now self ⌝ }
+    // After a moment: what became of each order, in order of acceptance, in a table that is written anew.
+    fn onwards(self, now: TimeOfDay) -> Orders
+        ensures { λ r. ⌜ r ≡ ordersOf (advancing now (standingOf self)) ⌝ }
     {
         let count = common::least(self.count, MOST_ORDERS);
         let mut advanced = Orders::none();
@@ -255,6 +255,17 @@ impl Orders {
             at += 1;
         }
         advanced
+    }
+
+    // After a moment. One at which no order is due leaves the orders as they are, free places too, and so writes no table.
+    pub fn advance(self, now: TimeOfDay) -> Orders
+        ensures { λ r. ⌜ r ≡ advanceOf now self ⌝ }
+    {
+        if self.due_count(now) == 0 {
+            self
+        } else {
+            self.onwards(now)
+        }
     }
 
     // How many orders a moment carries out.

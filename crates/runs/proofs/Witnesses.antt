@@ -20,7 +20,7 @@ use Rattle.process.specs.Messages.{zeros, emptyOf as emptyBuffer, putOf}
 use Rattle.process.specs.Process.{movedOf, handedOf, storedOf, deliverOf}
 use Rattle.semaphores.specs.Queues.{listOf, queued, emptyOf as emptyQueue, pushOf, levelsFor, withoutFirst, passedOf, leavingOf}
 use Rattle.semaphores.specs.Semaphores.{usableOf, freshOf as freshSemaphores, holderOf, waitersOf, requestOf as requestsOf, holdsOf, releaseOf as releasesOf}
-use Rattle.orders.specs.Advance.{dueAt, dueOf, onwardOf, leftsOf, advanceOf}
+use Rattle.orders.specs.Advance.{dueAt, dueOf, dueCountOf, onwardOf, leftsOf, advanceOf}
 use Rattle.orders.specs.Cancel.{isFrom, matchesOf, howManyOf, withoutOf, removedOf, cancelOf}
 use Rattle.orders.specs.Moments.{intervalOf, delayOf}
 use Rattle.orders.specs.Orders.{noOrder, standingOf, ordersOf, noneOf, pushOf as ordersPush, acceptOf}
@@ -150,7 +150,7 @@ pub record ShowsOrders : Type 0 where
 
 -- it does
 pub shows-orders : ShowsOrders
-unfolding deedOf everyBelow keepOf packedOf standsIn bitOf wordOf hasOf setOf noInputs exceptOf inputRun risingOf membersOf countOf nextOf emptyBuffer movedOf listOf queued emptyQueue usableOf freshSemaphores standingOf ordersOf noneOf configuredOf inputsOf goodOf timesOf levelSound levelsSound orderSound ordersSound holderSound holdersSound waiterSound queueSound onCard lengthsSound poolSound soundOf freshPool freshOf processAt alsoOf obeyed startOf guardedOf afterOf forwardOf untilOf madeOf intervalOf delayOf momentOf ordersPush acceptOf isFrom matchesOf howManyOf withoutOf removedOf cancelOf receiverOf senderOf putOf storedOf handedOf deliverOf tellOf markedBy oneOf allOf dueOf onwardOf leftsOf advanceOf ordered scheduleOf cancelledOf cancelScheduleOf startSchedulerOf carriedOut carryingOut tickAt tickOf ticksOf Undisturbed Lets isFor ticksIn ticksBy followedOn orderSteps
+unfolding deedOf everyBelow keepOf packedOf standsIn bitOf wordOf hasOf setOf noInputs exceptOf inputRun risingOf membersOf countOf nextOf emptyBuffer movedOf listOf queued emptyQueue usableOf freshSemaphores standingOf ordersOf noneOf configuredOf inputsOf goodOf timesOf levelSound levelsSound orderSound ordersSound holderSound holdersSound waiterSound queueSound onCard lengthsSound poolSound soundOf freshPool freshOf processAt alsoOf obeyed startOf guardedOf afterOf forwardOf untilOf madeOf intervalOf delayOf momentOf ordersPush acceptOf isFrom matchesOf howManyOf withoutOf removedOf cancelOf receiverOf senderOf putOf storedOf handedOf deliverOf tellOf markedBy oneOf allOf dueOf dueCountOf onwardOf leftsOf advanceOf ordered scheduleOf cancelledOf cancelScheduleOf startSchedulerOf carriedOut carryingOut tickAt tickOf ticksOf Undisturbed Lets isFor ticksIn ticksBy followedOn orderSteps
 shows-orders = record {
   running = record { running = refl; no-switch = refl };
   one = refl;

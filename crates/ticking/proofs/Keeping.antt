@@ -15,7 +15,7 @@ use Rattle.day.proofs.Forward.{forward-within}
 use Rattle.orders.specs.declared.Onward.{Onward}
 use Rattle.orders.specs.declared.Order.{Order}
 use Rattle.orders.specs.declared.Orders.{Orders}
-use Rattle.orders.specs.Advance.{dueAt, againOf, onwardOf, leftOf, leftsOf, advancing, advanceOf}
+use Rattle.orders.specs.Advance.{dueAt, dueCountOf, againOf, onwardOf, leftOf, leftsOf, advancing, advanceOf}
 use Rattle.orders.specs.Orders.{standingOf}
 use Rattle.orders.proofs.Tables.{standing-most}
 use Rattle.posting.specs.declared.Origin.the-variants.{Timed}
@@ -64,11 +64,14 @@ module _ (c : Config) (now : TimeOfDay) where
       )
 
   -- sound orders are sound after a moment, in as many places
-  advance-good : (o : Orders) → ordersSound c o ≡ true → (length (advanceOf now o .places) ≡ 64) × (ordersSound c (advanceOf now o) ≡ true)
+  advance-good : (o : Orders) → length (o .places) ≡ 64 → ordersSound c o ≡ true
+      → (length (advanceOf now o .places) ≡ 64) × (ordersSound c (advanceOf now o) ≡ true)
   unfolding advanceOf
-  advance-good o sound =
+  advance-good o places sound =
       let lefts = lefts-good (standingOf o) (orders-standing c o sound) in
-      let fewer : length (advancing now (standingOf o)) ≤ length (standingOf o) = lefts .0 in (
+      let fewer : length (advancing now (standingOf o)) ≤ length (standingOf o) = lefts .0 in
+      by-pick (λ (after : Orders). (length (after .places) ≡ 64) × (ordersSound c after ≡ true)) (eqb (dueCountOf now o) 0) o _
+      (places, sound) (
         made-places (advancing now (standingOf o)),
         made-sound c (advancing now (standingOf o)) (omega (arith, standing-most o)) (omega (arith, standing-few o, orders-count c o sound)) (lefts .1),
       )
@@ -80,7 +83,7 @@ at-keeps : (now : TimeOfDay) (t : Table) → now .milliseconds < day → Steady 
 unfolding tickAt stopping passing carryingOut carriedOut
 at-keeps now t within steady =
     let clocked : Steady (withClock t now) = steady-clock t now steady (lt-ltb (now .milliseconds) day within) in
-    let good = advance-good (t .config) now (t .orders) (steady .parts .orders) in
+    let good = advance-good (t .config) now (t .orders) (steady .places) (steady .parts .orders) in
     let letters = map letterOf (dueNow now t) in
     let keeps : Run → Type 0 = (λ x. Steady (x .table)) in
     by-pick keeps (t .scheduler .running) _ _

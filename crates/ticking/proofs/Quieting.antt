@@ -6,6 +6,7 @@ use Prim.Native.Nat.{ℕ, zero, suc, _+_, _-_, _<_, _≤_}
 use native.Mathlib.Omega.{arith}
 use native.Mathlib.Nat.{add-assoc, add-zero, zero-add}
 use native.Mathlib.Numerals.{add-one}
+use lib.ListN.{length}
 use Rattle.common.specs.Fold.{foldOf}
 use Rattle.common.proofs.Cases.{by-test}
 use Rattle.common.proofs.Fold.{fold-append}
@@ -16,11 +17,10 @@ use Rattle.day.proofs.Forward.{forward-forward}
 use Rattle.day.proofs.Until.{until-range}
 use Rattle.orders.specs.declared.Order.{Order}
 use Rattle.orders.specs.declared.Orders.{Orders}
-use Rattle.orders.specs.Orders.{standingOf, ordersOf}
-use Rattle.orders.specs.Advance.{dueAt, dueOf, dueCountOf, advanceOf, nextDue, nextDueOf}
-use Rattle.orders.proofs.Nearest.{quiet-none, quiet-same}
-use Rattle.orders.proofs.Standing.{standing-orders}
-use Rattle.orders.proofs.Tables.{standing-most}
+use Rattle.orders.specs.Orders.{standingOf}
+use Rattle.orders.specs.Advance.{dueAt, dueOf, dueCountOf, nextDue, nextDueOf}
+use Rattle.orders.proofs.Nearest.{quiet-none}
+use Rattle.orders.proofs.Tables.{standing-most, due-counted, advance-none}
 use Rattle.posting.specs.Posting.{allOf}
 use Rattle.posting.proofs.Letters.{push-all}
 use Rattle.table.specs.declared.wakes.Wakes.{Wakes}
@@ -28,7 +28,7 @@ use Rattle.table.specs.declared.Outcome.{Outcome}
 use Rattle.table.specs.declared.Table.{Table}
 use Rattle.table.specs.Wakes.{noWakesOf, wakePushOf}
 use Rattle.calls.specs.Effects.{outcomeOf}
-use Rattle.calls.specs.Levels.{withClock, withScheduler, withOrders}
+use Rattle.calls.specs.Levels.{withClock, withScheduler}
 use Rattle.calls.specs.Outcomes.{carriesNumber}
 use Rattle.calls.proofs.Obeying.{outcome-number}
 use Rattle.ticking.specs.Ticking.{Run, run, carriedOut, carryingOut, stopping, passing, tickAt, tickOf, followed, ticksOf, runEffect}
@@ -106,19 +106,15 @@ tick-stopped now t rests = rw rests
 
 -- ---- the scheduler runs
 
--- the orders that stand are found again
-standing-again : (o : Orders) → standingOf (ordersOf (standingOf o)) ≡ standingOf o
-standing-again o = standing-orders (standingOf o) (standing-most o)
-
--- a table after some quiet ticks: another time, and the free places of the order table as if never used
+-- a table after some quiet ticks: another time, and nothing else
 abbrev quietAt : ℕ → Table → Table
 quietAt zero t = t
-quietAt (suc m) t = withOrders (withClock t (forwardOf (t .clock) (suc m))) (ordersOf (standingOf (t .orders)))
+quietAt (suc m) t = withClock t (forwardOf (t .clock) (suc m))
 
--- carrying out looks at the orders that stand, and at no free place, and not at the clock of before
-carrying-same : (now clock : TimeOfDay) (t : Table) → carryingOut now (withOrders (withClock t clock) (ordersOf (standingOf (t .orders)))) ≡ carryingOut now t
-unfolding carryingOut advanceOf
-carrying-same now clock t = rw (standing-again (t .orders))
+-- carrying out does not look at the clock of before
+carrying-same : (now clock : TimeOfDay) (t : Table) → carryingOut now (withClock t clock) ≡ carryingOut now t
+unfolding carryingOut
+carrying-same now clock t = refl
 
 -- the next tick's time
 soon-later : (clock : TimeOfDay) (m : ℕ) → forwardOf (forwardOf clock (suc m)) 1 ≡ forwardOf clock (suc (suc m))
@@ -140,12 +136,10 @@ module _ (t : Table) (runs : t .scheduler .running ≡ true) (stays : t .schedul
 
   -- it is quiet too where nothing is due
   next-quiet : (m : ℕ) → suc m < nextDueOf (t .clock) (t .orders) → carryingOut (forwardOf (t .clock) (suc m)) t ≡ run 0 [] (quietAt (suc m) t)
-  unfolding carryingOut carriedOut allOf advanceOf nextDueOf
+  unfolding carryingOut carriedOut allOf nextDueOf
   next-quiet m before =
-      rw (
-        quiet-none (t .clock) (suc m) (omega arith) (standingOf (t .orders)) before,
-        quiet-same (t .clock) (suc m) (omega arith) (standingOf (t .orders)) before,
-      )
+      let none = quiet-none (t .clock) (suc m) (omega arith) (standingOf (t .orders)) before in
+      rw (advance-none (forwardOf (t .clock) (suc m)) (t .orders) (due-counted _ _ ∙ ap length none), none)
 
   -- so all ticks before the next due moment are quiet
   quiet-run : (m : ℕ) → m < nextDueOf (t .clock) (t .orders) → ticksOf m t ≡ run 0 [] (quietAt m t)
