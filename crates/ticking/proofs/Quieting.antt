@@ -7,6 +7,7 @@ use native.Mathlib.Omega.{arith}
 use native.Mathlib.Nat.{add-assoc, add-zero, zero-add}
 use native.Mathlib.Numerals.{add-one}
 use lib.ListN.{length}
+use borrow.Author.Tests.{eq-eqb, ne-eqb}
 use Rattle.common.specs.Fold.{foldOf}
 use Rattle.common.proofs.Cases.{by-test}
 use Rattle.common.proofs.Fold.{fold-append}
@@ -31,7 +32,7 @@ use Rattle.calls.specs.Effects.{outcomeOf}
 use Rattle.calls.specs.Levels.{withClock, withScheduler}
 use Rattle.calls.specs.Outcomes.{carriesNumber}
 use Rattle.calls.proofs.Obeying.{outcome-number}
-use Rattle.ticking.specs.Ticking.{Run, run, carriedOut, carryingOut, stopping, passing, tickAt, tickOf, followed, ticksOf, runEffect}
+use Rattle.ticking.specs.Ticking.{Run, run, carriedOut, carryingOut, stopping, passing, tickAt, tickOf, followed, ticksOf, runEffect, clockAfter}
 
 -- the next due moment is at least one tick away
 pub next-later : (clock : TimeOfDay) (l : List Order) → 0 < nextDue clock l
@@ -108,48 +109,70 @@ tick-stopped now t rests = rw rests
 
 -- a table after some quiet ticks: another time, and nothing else
 abbrev quietAt : ℕ → Table → Table
-quietAt zero t = t
-quietAt (suc m) t = withClock t (forwardOf (t .clock) (suc m))
+quietAt m t = withClock t (clockAfter (t .clock) m)
 
 -- carrying out does not look at the clock of before
 carrying-same : (now clock : TimeOfDay) (t : Table) → carryingOut now (withClock t clock) ≡ carryingOut now t
 unfolding carryingOut
 carrying-same now clock t = refl
 
--- the next tick's time
+-- no order is due at any of the next so many ticks
+abbrev pub Undue : ℕ → Table → Type 0
+Undue n t = (k : ℕ) → 0 < k → k ≤ n → dueOf (forwardOf (t .clock) k) (standingOf (t .orders)) ≡ []
+
+-- none is due before the next due moment
+pub undue-before : (n : ℕ) (t : Table) → n < nextDueOf (t .clock) (t .orders) → Undue n t
+unfolding nextDueOf
+undue-before n t before k some within = quiet-none (t .clock) k some (standingOf (t .orders)) (omega arith)
+
+module _ (clock : TimeOfDay) (n : ℕ) where
+  -- the clock after no tick, and after some
+  pub clock-none : n ≡ 0 → clockAfter clock n ≡ clock
+  unfolding clockAfter
+  clock-none none = rw (eq-eqb n 0 none)
+
+  pub clock-some : (n ≡ 0 → ⊥) → clockAfter clock n ≡ forwardOf clock n
+  unfolding clockAfter
+  clock-some some = rw (ne-eqb n 0 some)
+
+-- the next tick's time, after some ticks
 soon-later : (clock : TimeOfDay) (m : ℕ) → forwardOf (forwardOf clock (suc m)) 1 ≡ forwardOf clock (suc (suc m))
 soon-later clock m = forward-forward clock (suc m) 1 ∙ ap (forwardOf clock) (omega arith)
+
+-- and after any number of them
+soon-after : (clock : TimeOfDay) (m : ℕ) → forwardOf (clockAfter clock m) 1 ≡ forwardOf clock (suc m)
+soon-after clock zero = ap (λ c. forwardOf c 1) (clock-none clock 0 refl)
+soon-after clock (suc m) = ap (λ c. forwardOf c 1) (clock-some clock (suc m) (λ none. omega arith)) ∙ soon-later clock m
 
 module _ (t : Table) (runs : t .scheduler .running ≡ true) (stays : t .scheduler .switch ≡ false) where
   -- the tick after quiet ones
   next-tick : (m : ℕ) → tickOf (quietAt m t) ≡ carryingOut (forwardOf (t .clock) (suc m)) t
   unfolding tickOf
-  next-tick zero = tick-running (forwardOf (t .clock) 1) t runs stays
-  next-tick (suc m) =
-      tick-running _ (quietAt (suc m) t) runs stays
-      ∙ ap (λ now. carryingOut now (quietAt (suc m) t)) (soon-later (t .clock) m)
-      ∙ carrying-same (forwardOf (t .clock) (suc (suc m))) (forwardOf (t .clock) (suc m)) t
+  next-tick m =
+      tick-running _ (quietAt m t) runs stays
+      ∙ ap (λ now. carryingOut now (quietAt m t)) (soon-after (t .clock) m)
+      ∙ carrying-same (forwardOf (t .clock) (suc m)) (clockAfter (t .clock) m) t
 
   -- the tick after ticks that were quiet
   after-quiet : (m : ℕ) → ticksOf m t ≡ run 0 [] (quietAt m t) → ticksOf (suc m) t ≡ carryingOut (forwardOf (t .clock) (suc m)) t
   after-quiet m quiet = one-more m t (quietAt m t) quiet ∙ next-tick m
 
   -- it is quiet too where nothing is due
-  next-quiet : (m : ℕ) → suc m < nextDueOf (t .clock) (t .orders) → carryingOut (forwardOf (t .clock) (suc m)) t ≡ run 0 [] (quietAt (suc m) t)
-  unfolding carryingOut carriedOut allOf nextDueOf
-  next-quiet m before =
-      let none = quiet-none (t .clock) (suc m) (omega arith) (standingOf (t .orders)) before in
-      rw (advance-none (forwardOf (t .clock) (suc m)) (t .orders) (due-counted _ _ ∙ ap length none), none)
+  next-quiet : (m : ℕ) → dueOf (forwardOf (t .clock) (suc m)) (standingOf (t .orders)) ≡ [] → carryingOut (forwardOf (t .clock) (suc m)) t ≡ run 0 [] (quietAt (suc m) t)
+  unfolding carryingOut carriedOut allOf
+  next-quiet m none =
+      rw (clock-some (t .clock) (suc m) (λ zero. omega arith), advance-none (forwardOf (t .clock) (suc m)) (t .orders) (due-counted _ _ ∙ ap length none), none)
 
-  -- so all ticks before the next due moment are quiet
-  quiet-run : (m : ℕ) → m < nextDueOf (t .clock) (t .orders) → ticksOf m t ≡ run 0 [] (quietAt m t)
+  -- so all ticks at which none is due are quiet
+  pub quiet-run : (m : ℕ) → Undue m t → ticksOf m t ≡ run 0 [] (withClock t (clockAfter (t .clock) m))
   unfolding ticksOf
-  quiet-run zero before = refl
-  quiet-run (suc m) before = after-quiet m (quiet-run m (omega arith)) ∙ next-quiet m before
+  quiet-run zero none = ap (λ clock. run 0 [] (withClock t clock)) (sym (clock-none (t .clock) 0 refl))
+  quiet-run (suc m) none =
+      after-quiet m (quiet-run m (λ k some within. none k some (omega arith))) ∙ next-quiet m (none (suc m) (omega arith) (omega arith))
 
   -- and the ticks up to a moment are that moment's alone
   pub stride : (m : ℕ) → m < nextDueOf (t .clock) (t .orders) → ticksOf (m + 1) t ≡ carryingOut (forwardOf (t .clock) (m + 1)) t
-  stride m before = rw add-one (after-quiet m (quiet-run m before))
+  stride m before = rw add-one (after-quiet m (quiet-run m (undue-before m t before)))
 
 -- ---- the scheduler is stopped, or the first tick stops it
 

@@ -1,22 +1,26 @@
 -- Document 01, "Timer orders": what a tick does.
-use mathlib.Core.Bool.{false}
+use mathlib.Core.Bool.{Bool, true, false, not, _&&_, _||_}
 use mathlib.Core.List.{List, [], _++_, map}
 use Prim.Native.Nat.{ℕ, zero, suc, _+_}
+use lib.Dec.{eqb, ltb}
 use lib.ListN.{length}
 use Rattle.common.specs.Choice.{pick}
 use Rattle.day.specs.declared.TimeOfDay.{TimeOfDay}
 use Rattle.day.specs.TimeOfDay.{forwardOf}
 use Rattle.orders.specs.declared.Order.{Order}
+use Rattle.orders.specs.declared.Orders.{Orders}
 use Rattle.orders.specs.Orders.{standingOf}
-use Rattle.orders.specs.Advance.{dueOf, advanceOf}
+use Rattle.orders.specs.Advance.{dueOf, advanceOf, nextDueOf}
 use Rattle.posting.specs.declared.Origin.the-variants.{Timed}
 use Rattle.posting.specs.Posting.{Letter, letter, Posted, allOf}
 use Rattle.process.specs.declared.Process.{Process}
 use Rattle.table.specs.declared.answers.Answer.the-variants.{Ok}
 use Rattle.table.specs.declared.wakes.Wake.{Wake}
+use Rattle.table.specs.declared.Scheduler.{Scheduler}
 use Rattle.table.specs.declared.Table.{Table}
 use Rattle.calls.specs.Effects.{Effect, number}
 use Rattle.calls.specs.Levels.{withClock, withScheduler, withProcesses, withOrders}
+use Rattle.ticking.specs.declared.Lull.{Lull}
 
 -- what ticks do: how many orders they carried out, who woke, in order, and the table afterwards
 pub record Run : Type 0 where
@@ -75,3 +79,29 @@ ticksOf (suc n) t = followed (tickOf t) (ticksOf n (tickOf t .table))
 -- 0 with the orders carried out, and the wakes in order
 abbrev pub runEffect : Run → Effect
 runEffect x = record { answer = Ok; carried = number (x .count); wakes = x .wakes; table = x .table }
+
+-- ---- how the code comes to that
+
+-- at the next tick the scheduler carries out what is due
+abbrev pub runsOn : Scheduler → Bool
+runsOn s = s .running && not (s .switch)
+
+-- no order is due at any of the next n ticks: none stands, or the next due moment is further off
+unfoldable pub noneDue : Orders → TimeOfDay → ℕ → Bool
+noneDue o clock n = eqb (o .count) 0 || ltb n (nextDueOf clock o)
+
+-- n ticks on; no tick leaves even a clock that reads no time of day as it is
+unfoldable pub clockAfter : TimeOfDay → ℕ → TimeOfDay
+clockAfter clock n = pick (eqb n 0) clock (forwardOf clock n)
+
+-- n ticks on: the first of them stops a scheduler that does not run on, and the switch stays as it is
+unfoldable pub schedulerAfter : Scheduler → ℕ → Scheduler
+schedulerAfter s n = pick (runsOn s || eqb n 0) s (record { running = false; switch = s .switch })
+
+-- no order is carried out by any of the next n ticks
+unfoldable pub isLull : Scheduler → Orders → TimeOfDay → ℕ → Bool
+isLull s o clock n = pick (runsOn s) (noneDue o clock n) true
+
+-- what the next n ticks come to where they carry out no order
+unfoldable pub lullOf : Scheduler → Orders → TimeOfDay → ℕ → Lull
+lullOf s o clock n = record { holds = isLull s o clock n; clock = clockAfter clock n; scheduler = schedulerAfter s n }

@@ -5,14 +5,23 @@ ghost use Rattle.calls.specs.Effects.{outcomeOf};
 ghost use Rattle.orders.specs.Advance.{dueOf};
 ghost use Rattle.orders.specs.Orders.{standingOf};
 ghost use Rattle.posting.specs.Posting.{addedOf};
-ghost use Rattle.ticking.specs.Ticking.{carriedOut, runEffect, tickOf, ticksOf};
+ghost use Rattle.ticking.specs.Ticking.{carriedOut, runEffect, tickOf, ticksOf, runsOn, noneDue, clockAfter, schedulerAfter, isLull, lullOf};
 use day::TimeOfDay;
 use orders::Orders;
 use posting::Origin;
 use posting::Posting;
 use table::Outcome;
+use table::Scheduler;
 use table::Table;
 use table::wakes::Wakes;
+
+// What so many ticks come to where they carry out no order: a lull. The clock and the scheduler are all that changes.
+pub struct Lull {
+    // No order is carried out by any of them.
+    pub holds: bool,
+    pub clock: TimeOfDay,
+    pub scheduler: Scheduler,
+}
 
 // The orders due now are carried out in order of acceptance, after what was delivered before: each one's message goes to its receiver.
 fn carried_out(places: usize, orders: Orders, now: TimeOfDay, begun: Posting) -> Posting
@@ -82,18 +91,73 @@ fn running_on(table: Table, count: u32) -> Outcome
     calls::with_number(after, carried, wakes)
 }
 
-// So many ticks of a scheduler that is stopped, or that the first of them stops: only the clock moves.
-fn resting(table: Table, count: u32) -> Outcome
-    requires { ⌜ (table .scheduler .running ≡ true → table .scheduler .switch ≡ true) ⌝ }
-    ensures { λ r. ⌜ r ≡ outcomeOf (runEffect (ticksOf count table)) ⌝ }
+// The scheduler carries out what is due at the next tick.
+fn runs_on(scheduler: Scheduler) -> bool
+    ensures { λ r. ⌜ r ≡ runsOn scheduler ⌝ }
 {
-    let clock = table.clock;
-    let mut after = table;
-    if 0 < count {
-        after.clock = clock.forward(count as u64);
-        after.scheduler.running = false;
+    scheduler.running & !scheduler.switch
+}
+
+// No order is due at any of the next so many ticks. (Where none stands, none is looked for.)
+fn none_due(orders: Orders, clock: TimeOfDay, count: u32) -> bool
+    ensures { λ r. ⌜ r ≡ noneDue orders clock count ⌝ }
+{
+    if orders.count == 0 {
+        true
+    } else {
+        count < orders.next_due(clock)
     }
-    calls::with_number(after, 0, Wakes::none())
+}
+
+// What the clock reads after so many ticks.
+fn clock_after(clock: TimeOfDay, count: u32) -> TimeOfDay
+    ensures { λ r. ⌜ r ≡ clockAfter clock count ⌝ }
+{
+    if count == 0 {
+        clock
+    } else {
+        clock.forward(count as u64)
+    }
+}
+
+// The scheduler after so many ticks. One that does not run on is stopped after the first.
+fn scheduler_after(scheduler: Scheduler, count: u32) -> Scheduler
+    ensures { λ r. ⌜ r ≡ schedulerAfter scheduler count ⌝ }
+{
+    if runs_on(scheduler) | (count == 0) {
+        scheduler
+    } else {
+        Scheduler {
+            running: false,
+            switch: scheduler.switch,
+        }
+    }
+}
+
+// No order is carried out by any of the next so many ticks.
+fn is_lull(scheduler: Scheduler, orders: Orders, clock: TimeOfDay, count: u32) -> bool
+    ensures { λ r. ⌜ r ≡ isLull scheduler orders clock count ⌝ }
+{
+    if runs_on(scheduler) {
+        none_due(orders, clock, count)
+    } else {
+        true
+    }
+}
+
+// What so many ticks come to where they carry out no order. These parts of a table are enough to tell, so that a lull is found before the table is
+// copied.
+pub fn lull_of(scheduler: Scheduler, orders: Orders, clock: TimeOfDay, count: u32) -> Lull
+    ensures { λ r. ⌜ r ≡ lullOf scheduler orders clock count ⌝ }
+{
+    let holds = is_lull(scheduler, orders, clock, count);
+    let clock = clock_after(clock, count);
+    let scheduler = scheduler_after(scheduler, count);
+    Lull {
+        holds,
+        clock,
+        scheduler,
+    }
 }
 
 // One tick.
@@ -103,18 +167,22 @@ pub fn tick(table: Table) -> Outcome
     ticks(table, 1)
 }
 
-// So many ticks, one after the other.
+// So many ticks, one after the other. A lull costs one step, however long it is.
 pub fn ticks(table: Table, count: u32) -> Outcome
     ensures { λ r. ⌜ r ≡ outcomeOf (runEffect (ticksOf count table)) ⌝ }
 {
-    let found = table.scheduler;
-    if found.running {
-        if found.switch {
-            resting(table, count)
-        } else {
-            running_on(table, count)
-        }
+    let scheduler = table.scheduler;
+    let orders = table.orders;
+    let clock = table.clock;
+    let found = lull_of(scheduler, orders, clock, count);
+    if found.holds {
+        let clock = found.clock;
+        let scheduler = found.scheduler;
+        let mut after = table;
+        after.clock = clock;
+        after.scheduler = scheduler;
+        calls::with_number(after, 0, Wakes::none())
     } else {
-        resting(table, count)
+        running_on(table, count)
     }
 }
