@@ -22,7 +22,7 @@ use Rattle.calls.specs.declared.Verdict.the-variants.{Passed, Refused}
 use Rattle.calls.specs.Decisions.{decided, decidedBy, toldOf, decidedAt}
 use Rattle.calls.specs.Effects.{Effect, nothing, refuse, outcomeOf}
 use Rattle.calls.specs.Levels.{processAt, processOf}
-use Rattle.calls.specs.Verdicts.{Check, check, after, alsoOf, obeyed, checked}
+use Rattle.calls.specs.Verdicts.{Check, check, after, alsoOf, obeyed, byCaller, checked}
 
 -- A level above 11 is not configured, so no call looks at its record: the code looks at the one at 11 instead, and puts it back. Of the place and the record
 -- there is what holds of a configured level and its own record, and what holds of any place and the record there where the level is not configured.
@@ -40,6 +40,14 @@ module _ (t : Table) (level : ℕ) (other : Process) (whole : length (t .process
       subst (λ (at : ℕ). P at (getD (t .processes) at other)) (sym here) (subst (P level) (sym same) own))
       (λ nobody. others nobody (min level 11))
 
+-- the caller's two checks, on the record that is looked at
+module _ (t : Table) (caller : ℕ) (other : Process) (whole : length (t .processes) ≡ 12) where
+  pub seen-caller : byCaller (t .config) (getD (t .processes) (min caller 11) other) caller ≡ byCaller (t .config) (processOf t caller) caller
+  unfolding alsoOf
+  seen-caller =
+      own-or-other t caller other whole (λ at p. byCaller (t .config) p caller ≡ byCaller (t .config) (processOf t caller) caller) refl
+      (λ nobody at. rw nobody)
+
 -- a refusal leaves the record where it is
 decided-refused : (t : Table) (at : ℕ) (other : Process) (answer : Answer)
     → decidedAt t at (decided answer nothing (getD (t .processes) at other)) ≡ outcomeOf (refuse t answer)
@@ -54,7 +62,7 @@ decided-verdict Passed t at x effect obeys = obeys
 decided-verdict (Refused answer) t at x effect obeys = decided-refused t at freshOf answer
 
 -- checks behind one that failed make no difference
-after-refused : (answer : Answer) (l : List Check) → after (Refused answer) l ≡ Refused answer
+pub after-refused : (answer : Answer) (l : List Check) → after (Refused answer) l ≡ Refused answer
 unfolding alsoOf
 after-refused answer [] = refl
 after-refused answer (c ∷ l) = after-refused answer l

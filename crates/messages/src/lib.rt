@@ -133,7 +133,7 @@ fn took(process: Process) -> Decided
 }
 
 // RECEIVE of a level with this record.
-fn received(config: Config, process: Process, caller: u8) -> Decided
+pub fn received(config: Config, process: Process, caller: u8) -> Decided
     ensures { λ r. ⌜ r ≡ receivedOf config process caller ⌝ }
 {
     let buffer = process.buffer;
@@ -162,7 +162,7 @@ pub fn receive(table: Table, caller: u8) -> Outcome
 }
 
 // AWAITMESSAGE of a level with this record.
-fn awaited(config: Config, process: Process, caller: u8) -> Decided
+pub fn awaited(config: Config, process: Process, caller: u8) -> Decided
     ensures { λ r. ⌜ r ≡ awaitedOf config process caller ⌝ }
 {
     let buffer = process.buffer;

@@ -14,8 +14,8 @@ use Rattle.calls.specs.declared.Verdict.{Verdict}
 use Rattle.calls.specs.declared.Verdict.the-variants.{Passed, Refused}
 use Rattle.calls.specs.Effects.{Effect, bytes, done, carrying, outcomeOf}
 use Rattle.calls.specs.Levels.{processOf, withPool}
-use Rattle.calls.specs.Verdicts.{Check, alsoOf, after, obeyed, byCaller}
-use Rattle.calls.proofs.Deciding.{own-or-other}
+use Rattle.calls.specs.Verdicts.{Check, after, obeyed, byCaller}
+use Rattle.calls.proofs.Deciding.{seen-caller}
 use Rattle.pooling.specs.declared.Decision.{Decision}
 use Rattle.pooling.specs.Deciding.{alone, decidedBy, toldOf, toldIn, enteredOf, statedBy, broughtOf, givenOf}
 use Rattle.pooling.specs.Pooling.{accessChecks, statingChecks, accessOf, initPoolOf, poolCheckOf, getPoolOf, putPoolOf}
@@ -42,18 +42,12 @@ module _ (t : Table) (caller : ℕ) (other : Process) (whole : length (t .proces
   abbrev seen : Process
   seen = getD (t .processes) (min caller 11) other
 
-  seen-caller : byCaller (t .config) seen caller ≡ byCaller (t .config) (processOf t caller) caller
-  unfolding alsoOf
-  seen-caller =
-      own-or-other t caller other whole (λ at p. byCaller (t .config) p caller ≡ byCaller (t .config) (processOf t caller) caller) refl
-      (λ nobody at. rw nobody)
-
   -- a call of which only the caller's two checks look at its record
   by-seen : (checks : List Check) (x : Decision) (effect : Effect) → toldIn t x ≡ outcomeOf effect
       → toldIn t (decidedBy (after (byCaller (t .config) seen caller) checks) (t .pool) x)
       ≡ outcomeOf (obeyed (after (byCaller (t .config) (processOf t caller) caller) checks) t effect)
   by-seen checks x effect obeys =
-      ap (λ (v : Verdict). toldIn t (decidedBy (after v checks) (t .pool) x)) seen-caller
+      ap (λ (v : Verdict). toldIn t (decidedBy (after v checks) (t .pool) x)) (seen-caller t caller other whole)
       ∙ told-verdict (after (byCaller (t .config) (processOf t caller) caller) checks) t x effect obeys
 
   pub init-all : toldIn t (enteredOf (t .config) seen (t .pool) caller) ≡ outcomeOf (initPoolOf t caller)

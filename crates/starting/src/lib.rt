@@ -16,7 +16,7 @@ use table::configs::Config;
 pub const LAST_PRIORITY: u16 = 63;
 
 // START of a level with this record.
-fn started(config: Config, process: Process, level: u16, priority: u16) -> Decided
+pub fn started(config: Config, process: Process, level: u16, priority: u16) -> Decided
     ensures { λ r. ⌜ r ≡ startedOf config process level priority ⌝ }
 {
     let state = process.state;
@@ -50,7 +50,7 @@ pub fn start(table: Table, level: u16, priority: u16) -> Outcome
 }
 
 // SETPRIORITY of a level with this record.
-fn prioritized(config: Config, process: Process, caller: u8, priority: u16) -> Decided
+pub fn prioritized(config: Config, process: Process, caller: u8, priority: u16) -> Decided
     ensures { λ r. ⌜ r ≡ prioritizedOf config process caller priority ⌝ }
 {
     let verdict = calls::caller_checked(config, process, caller).check(

@@ -11,6 +11,7 @@ use Rattle.table.specs.declared.answers.Answer.{Answer}
 use Rattle.table.specs.declared.configs.Config.{Config}
 use Rattle.table.specs.declared.Table.{Table}
 use Rattle.table.specs.declared.Outcome.{Outcome}
+use Rattle.table.specs.declared.Said.{Said}
 use Rattle.table.specs.declared.Shown.the-variants.{Nothing}
 use Rattle.table.specs.Wakes.{noWakesOf}
 
@@ -40,3 +41,7 @@ refusedOf t answer = record {
   wakes = noWakesOf;
   table = t;
 }
+
+-- what an outcome says, without the table that it leaves
+abbrev pub saidOf : Outcome → Said
+saidOf o = record { answer = o .answer; shown = o .shown; message = o .message; inputs = o .inputs; number = o .number; wakes = o .wakes }

@@ -1,6 +1,6 @@
 // The table that holds all areas, what makes one sound, and what every call answers with.
 ghost use mathlib.Core.Path.{_≡_};
-ghost use Rattle.table.specs.Table.{freshOf, refusedOf};
+ghost use Rattle.table.specs.Table.{freshOf, refusedOf, saidOf};
 
 pub mod answers;
 pub mod configs;
@@ -61,6 +61,36 @@ pub struct Outcome {
     pub number: u64,
     pub wakes: Wakes,
     pub table: Table,
+}
+
+// What an outcome says, without the table that it leaves.
+pub struct Said {
+    pub answer: Answer,
+    pub shown: Shown,
+    pub message: Message,
+    pub inputs: InputSet,
+    pub number: u64,
+    pub wakes: Wakes,
+}
+
+impl Outcome {
+    pub fn said(self) -> Said
+        ensures { λ r. ⌜ r ≡ saidOf self ⌝ }
+    {
+        let answer = self.answer;
+        let shown = self.shown;
+        let message = self.message;
+        let inputs = self.inputs;
+        let wakes = self.wakes;
+        Said {
+            answer,
+            shown,
+            message,
+            inputs,
+            number: self.number,
+            wakes,
+        }
+    }
 }
 
 impl Scheduler {

@@ -76,7 +76,7 @@ ordered t order =
     (refuse t Answer.TaskListOverflow)
 
 -- "SCHEDULE: .. Checks: 1; then 6 for `to` < 0, count < 0, or, only if absolute, ..; then 13."
-abbrev scheduleChecks : Config → NewOrder → Moment → List Check
+abbrev pub scheduleChecks : Config → NewOrder → Moment → List Check
 scheduleChecks c s moment =
     check (configuredOf c (s .receiver)) Answer.ReceiverUnknown
     ∷ check (not (negative32 (s .to))) Answer.ParameterError
