@@ -39,16 +39,10 @@ golden: model
 	cp tests/golden/batch.stdin crates/batch/stdin
 	cp tests/golden/batch.stdout crates/batch/stdout
 
-# How long listings take, the model's and ours in one run. Ours is measured on x86-64 alone, for which it is compiled; a time under an
-# emulator says nothing.
-ifeq ($(shell uname -m),x86_64)
+# How long listings take, the model's and ours in one run, both compiled for this machine (tools/library says how, where it is no x86-64).
 bench:
 	tools/library
 	cd bench && RTMS_LIBRARY_DIR=$(CURDIR)/target/staticlib cargo run --offline --release --quiet --features in-process
-else
-bench:
-	cd bench && cargo run --offline --release --quiet
-endif
 
 # The model, and the tools around it.
 model:
