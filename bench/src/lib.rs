@@ -27,16 +27,26 @@ fn agree(subject: &Subject, sides: &mut [Side]) -> Result<(), String> {
     }
 }
 
+/// How many of the generator's full logs are measured.
+const SEEDS: usize = 24;
+
+/// Measures these logs on every side in so many rounds.
+fn measured(subjects: Vec<Subject>, sides: &mut [Side], rounds: usize) -> Result<Vec<Measured>, String> {
+    let mut all = Vec::new();
+    for subject in subjects {
+        agree(&subject, sides)?;
+        let times = timing::measure(&subject.log, sides, rounds);
+        all.push(Measured { subject, times });
+    }
+    Ok(all)
+}
+
 /// Measures every log on every side in so many rounds; the answer is a page in Markdown.
 pub fn page(rounds: usize) -> Result<String, String> {
     let mut sides = sides::all();
-    let mut measured = Vec::new();
-    for subject in logs::all() {
-        agree(&subject, &mut sides)?;
-        let times = timing::measure(&subject.log, &mut sides, rounds);
-        measured.push(Measured { subject, times });
-    }
-    Ok(table::page(&sides, &measured, rounds))
+    let chosen = measured(logs::all(), &mut sides, rounds)?;
+    let of_seeds = measured(logs::of_seeds(SEEDS), &mut sides, rounds)?;
+    Ok(table::page(&sides, &chosen, &of_seeds, rounds))
 }
 
 #[cfg(test)]

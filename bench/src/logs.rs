@@ -67,9 +67,20 @@ fn is_full(records: &[Record]) -> bool {
         && log::to_bytes(records).is_ok_and(|log| matches!(run(&log), Run::Obeyed { .. }))
 }
 
-/// One log in some hundred of the generator's is full, so the search is short.
+/// The generator's full logs with their seeds, one in some seven hundred and fifty of its logs.
+fn full_logs() -> impl Iterator<Item = (u64, Vec<Record>)> {
+    (MIXED..).map(|seed| (seed, generator::records(seed))).filter(|(_, records)| is_full(records))
+}
+
 fn mixed() -> Option<Vec<Record>> {
-    (MIXED..).map(generator::records).find(|records| is_full(records))
+    full_logs().next().map(|(_, records)| records)
+}
+
+/// The generator's first full logs, so many of them. What a full log costs depends on what it asks: one seed alone may
+/// flatter either side.
+pub fn of_seeds(count: usize) -> Vec<Subject> {
+    let named = |(seed, records)| subject(&format!("mixed calls, seed {seed}"), Some(records));
+    full_logs().take(count).map(named).collect()
 }
 
 /// Sends, receipts and waits. The last READY process wakes the others instead of waiting too.

@@ -1,6 +1,6 @@
 //! The logs of the benchmark are what their names say.
 
-use crate::logs::{all, Subject};
+use crate::logs::{all, of_seeds, Subject};
 use rtms_tests::listing::listing;
 use rtms_tests::log::{kind, read, MOST_RECORDS};
 use rtms_tests::run::{run, Run};
@@ -83,6 +83,14 @@ fn the_last_logs_are_beginnings_of_the_mixed_one() {
         assert_eq!(read(&subject.log).as_deref(), Ok(&whole[..records]));
     }
     assert_eq!(subjects.len(), 14);
+}
+
+#[test]
+fn the_first_log_of_the_seeds_is_the_mixed_one() {
+    let first = of_seeds(2);
+    assert_eq!(first[0].log, all()[1].log);
+    assert_ne!(first[1].log, first[0].log);
+    assert!(first.iter().all(|subject| subject.records == MOST_RECORDS));
 }
 
 #[test]
