@@ -1,6 +1,7 @@
 pub mod Standing
 pub mod Walks
 pub mod Tables
+pub mod Places
 pub mod Cancelling
 pub mod Nearest
 pub mod Life

@@ -62,6 +62,16 @@ module _ (now : TimeOfDay) (o : Orders) where
   unfolding advanceOf
   advance-some some = rw (ne-eqb (dueCountOf now o) 0 some)
 
+-- where the free places are written anew, so they are after any moment
+pub advance-orders : (now : TimeOfDay) (l : List Order) → length l ≤ 64 → advanceOf now (ordersOf l) ≡ ordersOf (advancing now l)
+advance-orders now l fits =
+    let stands = standing-orders l fits in
+    by-test (eqb (dueCountOf now (ordersOf l)) 0)
+    (λ none. let zero = eqb-true (dueCountOf now (ordersOf l)) 0 none in
+    advance-none now (ordersOf l) zero
+    ∙ ap ordersOf (sym (undue-same now l (ap (λ k. length (dueOf now k)) (sym stands) ∙ sym (due-counted now (ordersOf l)) ∙ zero))))
+    (λ some. advance-some now (ordersOf l) (eqb-false (dueCountOf now (ordersOf l)) 0 some) ∙ ap (λ k. ordersOf (advancing now k)) stands)
+
 -- a tick's step
 pub standing-advance : (now : TimeOfDay) (o : Orders) → standingOf (advanceOf now o) ≡ advancing now (standingOf o)
 standing-advance now o =

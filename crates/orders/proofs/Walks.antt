@@ -66,3 +66,9 @@ next-within clock (x ∷ l) = omega (arith, next-within clock l)
 -- and all of its turns
 pub nearing-due : (clock : TimeOfDay) (l : List Order) → foldOf (nearing clock) day l ≡ nextDue clock l
 nearing-due clock l = nearing-all clock day l (omega arith) ∙ omega (arith, next-within clock l)
+
+-- one order more
+pub next-behind : (clock : TimeOfDay) (l : List Order) (x : Order) → nextDue clock (l ++ (x ∷ [])) ≡ min (nextDue clock l) (untilOf clock (x .due))
+unfolding nextDue
+next-behind clock [] x = omega arith
+next-behind clock (y ∷ l) x = omega (arith, next-behind clock l x)

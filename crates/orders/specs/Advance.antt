@@ -1,7 +1,7 @@
 -- Document 01, "Timer orders": which orders a moment carries out, and what becomes of them.
 use mathlib.Core.Bool.{Bool, true, false}
 use mathlib.Core.List.{List, [], _∷_, _++_}
-use Prim.Native.Nat.{ℕ, _-_, min}
+use Prim.Native.Nat.{ℕ, zero, suc, _-_, min}
 use lib.Dec.{eqb}
 use lib.ListN.{length}
 use Rattle.common.specs.Choice.{pick}
@@ -66,3 +66,15 @@ nextDue clock (x ∷ l) = min (untilOf clock (x .due)) (nextDue clock l)
 
 unfoldable pub nextDueOf : TimeOfDay → Orders → ℕ
 nextDueOf clock o = nextDue clock (standingOf o)
+
+-- ---- how the code comes to that
+
+-- all but the one at a place
+unfoldable pub withoutAt : ℕ → List Order → List Order
+withoutAt place [] = []
+withoutAt zero (x ∷ l) = l
+withoutAt (suc place) (x ∷ l) = x ∷ withoutAt place l
+
+-- in a table that is written anew, free places too
+unfoldable pub withoutPlaceOf : ℕ → Orders → Orders
+withoutPlaceOf place o = ordersOf (withoutAt place (standingOf o))

@@ -2,8 +2,8 @@
 ghost use mathlib.Core.Path.{_≡_};
 ghost use Prim.Native.Nat.{_-_};
 ghost use Rattle.orders.specs.Moments.{intervalOf, delayOf};
-ghost use Rattle.orders.specs.Orders.{standingOf, ordersOf, noneOf, pushOf, pushIfOf, acceptOf};
-ghost use Rattle.orders.specs.Advance.{dueAt, againOf, onwardOf, advancing, advanceOf, dueCountOf, nextDueOf};
+ghost use Rattle.orders.specs.Orders.{noneOf, pushOf, pushIfOf, acceptOf};
+ghost use Rattle.orders.specs.Advance.{dueAt, againOf, onwardOf, nextDueOf, withoutPlaceOf};
 ghost use Rattle.orders.specs.Cancel.{cancelledNumber, isFrom, matchesOf, howManyOf, withoutOf, removedOf, toReceiver, cancelOf};
 use day::TimeOfDay;
 use process::Condition;
@@ -236,51 +236,23 @@ impl Orders {
         if stays { self.push(order) } else { self }
     }
 
-    // After a moment: what became of each order, in order of acceptance, in a table that is written anew.
-    fn onwards(self, now: TimeOfDay) -> Orders
-        ensures { λ r. ⌜ r ≡ ordersOf (advancing now (standingOf self)) ⌝ }
+    // All but the order at one place, in a table that is written anew, free places too. Where no order stands there, all of them.
+    pub fn without_place(self, place: usize) -> Orders
+        ensures { λ r. ⌜ r ≡ withoutPlaceOf place self ⌝ }
     {
         let count = common::least(self.count, MOST_ORDERS);
-        let mut advanced = Orders::none();
+        let mut left = Orders::none();
         let mut at = 0;
         while at < count {
-            let order = self.places[at];
-            let onward = order.onward(now);
-            let next = onward.order;
-            if onward.stays {
-                let behind = advanced.count;
-                advanced.places[behind] = next;
-                advanced.count = behind + 1;
+            if at != place {
+                let order = self.places[at];
+                let behind = left.count;
+                left.places[behind] = order;
+                left.count = behind + 1;
             }
             at += 1;
         }
-        advanced
-    }
-
-    // After a moment. One at which no order is due leaves the orders as they are, free places too, and so writes no table.
-    pub fn advance(self, now: TimeOfDay) -> Orders
-        ensures { λ r. ⌜ r ≡ advanceOf now self ⌝ }
-    {
-        if self.due_count(now) == 0 {
-            self
-        } else {
-            self.onwards(now)
-        }
-    }
-
-    // How many orders a moment carries out.
-    pub fn due_count(self, now: TimeOfDay) -> usize
-        ensures { λ r. ⌜ r ≡ dueCountOf now self ⌝ }
-    {
-        let count = common::least(self.count, MOST_ORDERS);
-        let mut found = 0;
-        let mut at = 0;
-        while at < count {
-            let order = self.places[at];
-            found += common::one_if(order.is_due(now));
-            at += 1;
-        }
-        found
+        left
     }
 
     // How long until an order is next due: a day at most.

@@ -53,7 +53,7 @@ module _ (origin : Origin) (places : ℕ) where
   step-joined s x then = added-joined s (oneOf origin places x (s .processes)) then
 
   -- a loop that posts letters does what became of them all
-  pub posts : (s : Posting) (letters : List Letter) → foldOf (stepOf origin places) s letters ≡ addedOf s (allOf origin places letters (s .processes))
+  posts : (s : Posting) (letters : List Letter) → foldOf (stepOf origin places) s letters ≡ addedOf s (allOf origin places letters (s .processes))
   unfolding allOf
   posts s [] = sym (added-none s)
   posts s (x ∷ letters) =

@@ -109,7 +109,7 @@ module _ (origin : Origin) (places : ℕ) (x : Letter) (processes : List Process
   one-other level other = getD-set-other processes (x .receiver) level _ freshOf other
 
   -- past the last level it reaches nobody
-  one-out : length processes ≤ x .receiver → oneOf origin places x processes .processes ≡ processes
+  pub one-out : length processes ≤ x .receiver → oneOf origin places x processes .processes ≡ processes
   unfolding oneOf
   one-out out = set-out processes (x .receiver) _ out
 
@@ -124,6 +124,11 @@ module _ (origin : Origin) (places : ℕ) (x : Letter) (processes : List Process
   one-wakes-none fails =
       rw (deliver-keeps (processAt processes (x .receiver)) (x .condition) places (x .message) fails)
       (kept-wakes (x .receiver) (processAt processes (x .receiver)) (x .condition) places (x .message))
+
+  -- nor does anybody past the last level
+  pub one-wakes-out : length processes ≤ x .receiver → oneOf origin places x processes .wakes ≡ []
+  unfolding processAt
+  one-wakes-out out = one-wakes-none (ap waits (List·getD-eq-default processes freshOf {n = x .receiver} out))
 
   -- who wakes is READY
   one-ready : waits (processAt processes (x .receiver)) ≡ true → processAt (oneOf origin places x processes .processes) (x .receiver) .state ≡ Ready

@@ -38,6 +38,12 @@ pub record Posted : Type 0 where
   pub wakes : List Wake
   pub full : Bool
 
+abbrev pub isHanded : Fate → Bool
+isHanded (Handed told) = true
+isHanded Stored = false
+isHanded NotWaiting = false
+isHanded Full = false
+
 abbrev pub isFull : Fate → Bool
 isFull (Handed told) = false
 isFull Stored = false

@@ -2,7 +2,7 @@
 // marks of those that lost one and the wakes of those that waited.
 ghost use mathlib.Core.Path.{_≡_};
 ghost use Rattle.common.specs.Choice.{pick};
-ghost use Rattle.posting.specs.Posting.{letter, isFull, isLost, markedBy, deliveredTo, beginOf, pushedFor, stepOf};
+ghost use Rattle.posting.specs.Posting.{letter, isHanded, isFull, isLost, markedBy, deliveredTo, beginOf, pushedFor, stepOf};
 use inputs::InputSet;
 use process::Condition;
 use process::Delivery;
@@ -27,6 +27,18 @@ pub struct Posting {
     pub wakes: Wakes,
     // A full buffer lost a message.
     pub full: bool,
+}
+
+// The message was handed over, and so wakes its receiver.
+pub fn is_handed(fate: Fate) -> bool
+    ensures { λ r. ⌜ r ≡ isHanded fate ⌝ }
+{
+    match fate {
+        Fate::Handed(_) => true,
+        Fate::Stored => false,
+        Fate::NotWaiting => false,
+        Fate::Full => false,
+    }
 }
 
 // The message was lost by a full buffer.

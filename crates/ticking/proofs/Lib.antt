@@ -1,5 +1,5 @@
-pub mod Carrying
 pub mod Keeping
+pub mod Moments
 pub mod Lulls
 pub mod Quieting
 pub mod Waking

@@ -11,7 +11,6 @@ use borrow.Author.Tests.{eq-eqb, ne-eqb}
 use Rattle.common.specs.Fold.{foldOf}
 use Rattle.common.proofs.Cases.{by-test}
 use Rattle.common.proofs.Fold.{fold-append}
-use Rattle.common.proofs.Keep.{length-keep}
 use Rattle.day.specs.declared.TimeOfDay.{TimeOfDay}
 use Rattle.day.specs.TimeOfDay.{forwardOf}
 use Rattle.day.proofs.Forward.{forward-forward}
@@ -19,9 +18,9 @@ use Rattle.day.proofs.Until.{until-range}
 use Rattle.orders.specs.declared.Order.{Order}
 use Rattle.orders.specs.declared.Orders.{Orders}
 use Rattle.orders.specs.Orders.{standingOf}
-use Rattle.orders.specs.Advance.{dueAt, dueOf, dueCountOf, nextDue, nextDueOf}
+use Rattle.orders.specs.Advance.{dueOf, nextDue, nextDueOf}
 use Rattle.orders.proofs.Nearest.{quiet-none}
-use Rattle.orders.proofs.Tables.{standing-most, due-counted, advance-none}
+use Rattle.orders.proofs.Tables.{due-counted, advance-none}
 use Rattle.posting.specs.Posting.{allOf}
 use Rattle.posting.proofs.Letters.{push-all}
 use Rattle.table.specs.declared.wakes.Wakes.{Wakes}
@@ -39,10 +38,6 @@ pub next-later : (clock : TimeOfDay) (l : List Order) → 0 < nextDue clock l
 unfolding nextDue
 next-later clock [] = omega arith
 next-later clock (x ∷ l) = omega (arith, until-range clock (x .due) .0, next-later clock l)
-
-pub next-due-later : (clock : TimeOfDay) (o : Orders) → 0 < nextDueOf clock o
-unfolding nextDueOf
-next-due-later clock o = next-later clock (standingOf o)
 
 -- ticks that end with none more
 pub followed-none : (x : Run) → followed x (run 0 [] (x .table)) ≡ x
@@ -202,11 +197,6 @@ module _ (t : Table) (stops : t .scheduler .running ≡ true → t .scheduler .s
       ∙ ap (λ now. run 0 [] (withClock (restedAt (suc m) t) now)) (soon-later (t .clock) m)
 
 -- ---- a run in the code's arrays
-
--- a tick carries out no more orders than there are places
-pub tick-few : (now : TimeOfDay) (o : Orders) → dueCountOf now o ≤ 64
-unfolding dueCountOf dueOf
-tick-few now o = omega (arith, length-keep (dueAt now) (standingOf o), standing-most o)
 
 -- where ticks end that come after others: with so many carried out, and such wakes
 unfoldable pub endOf : Wakes → ℕ → Run → Outcome

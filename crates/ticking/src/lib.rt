@@ -2,14 +2,15 @@
 ghost use mathlib.Core.Path.{_≡_};
 ghost use mathlib.Core.Bool.{true, false};
 ghost use Rattle.calls.specs.Effects.{outcomeOf};
-ghost use Rattle.orders.specs.Advance.{dueOf};
-ghost use Rattle.orders.specs.Orders.{standingOf};
-ghost use Rattle.posting.specs.Posting.{addedOf};
-ghost use Rattle.ticking.specs.Ticking.{carriedOut, runEffect, tickOf, ticksOf, runsOn, noneDue, clockAfter, schedulerAfter, isLull, lullOf};
+ghost use Rattle.posting.specs.Posting.{deliveredTo};
+ghost use Rattle.posting.specs.declared.Origin.the-variants.{Timed};
+ghost use Rattle.ticking.specs.Ticking.{runEffect, tickOf, ticksOf, runsOn, noneDue, clockAfter, schedulerAfter, isLull, lullOf};
 use day::TimeOfDay;
+use orders::Order;
 use orders::Orders;
 use posting::Origin;
-use posting::Posting;
+use process::Delivery;
+use process::Process;
 use table::Outcome;
 use table::Scheduler;
 use table::Table;
@@ -23,45 +24,18 @@ pub struct Lull {
     pub scheduler: Scheduler,
 }
 
-// The orders due now are carried out in order of acceptance, after what was delivered before: each one's message goes to its receiver.
-fn carried_out(places: usize, orders: Orders, now: TimeOfDay, begun: Posting) -> Posting
-    ensures { λ r. ⌜ r ≡ addedOf begun (carriedOut places (dueOf now (standingOf orders)) (begun .processes)) ⌝ }
+// What becomes of an order's message at its receiver.
+fn reached(places: usize, order: Order, process: Process) -> Delivery
+    ensures { λ r. ⌜ r ≡ deliveredTo Timed places (order .condition) (order .message) process ⌝ }
 {
-    let count = common::least(orders.count, orders::MOST_ORDERS);
-    let mut posting = begun;
-    let mut at = 0;
-    while at < count {
-        let order = orders.places[at];
-        if order.is_due(now) {
-            let receiver = order.receiver;
-            let condition = order.condition;
-            let message = order.message;
-            if receiver < 12 {
-                let process = posting.processes[receiver as usize];
-                let delivery = posting::delivered(
-                    Origin::Timed,
-                    places,
-                    condition,
-                    message,
-                    process,
-                );
-                let fate = delivery.fate;
-                let after = delivery.process;
-                let told = posting.wakes;
-                posting.processes[receiver as usize] = after;
-                posting.wakes = posting::pushed(told, receiver, fate, message);
-                posting.full = posting.full | posting::is_full(fate);
-            } else {
-                posting = posting.post(Origin::Timed, places, receiver, condition, message);
-            }
-        }
-        at += 1;
-    }
-    posting
+    let condition = order.condition;
+    let message = order.message;
+    posting::delivered(Origin::Timed, places, condition, message, process)
 }
 
-// So many ticks of a scheduler that runs on. Quiet ones are not walked: each turn of the loop goes to the next due moment. What changes lies in
-// locals, so that a turn copies no table.
+// So many ticks of a scheduler that runs on. A turn of the loop is one order of a moment, in order of acceptance, or, when all of them are through, the way to
+// the next moment at which one is due: quiet ticks are not walked. The loop writes into the arrays themselves; a function around a turn would copy
+// them for each order.
 fn running_on(table: Table, count: u32) -> Outcome
     requires { ⌜ (table .scheduler .running ≡ true) × (table .scheduler .switch ≡ false) ⌝ }
     ensures { λ r. ⌜ r ≡ outcomeOf (runEffect (ticksOf count table)) ⌝ }
@@ -69,22 +43,54 @@ fn running_on(table: Table, count: u32) -> Outcome
     let mut after = table;
     let config = after.config;
     let places = config.places as usize;
-    let processes = after.processes;
-    let mut posting = Posting::begin(processes);
+    let mut processes = after.processes;
     let mut orders = after.orders;
     let mut clock = after.clock;
+    let mut wakes = Wakes::none();
     let mut carried: u64 = 0;
     let mut left = count;
-    while 0 < left {
-        let passed = common::least_u32(left - 1, orders.next_due(clock) - 1);
-        clock = clock.forward(passed as u64 + 1);
-        carried += orders.due_count(clock) as u64;
-        posting = carried_out(places, orders, clock, posting);
-        orders = orders.advance(clock);
-        left -= passed + 1;
+    let mut nearest = orders.next_due(clock);
+    let mut standing = common::least(orders.count, orders::MOST_ORDERS);
+    let mut at = standing;
+    while (0 < left) | (at < standing) {
+        if at < standing {
+            let order = orders.places[at];
+            let receiver = order.receiver;
+            let is_due = order.is_due(clock);
+            if is_due & (receiver < 12) {
+                let process = processes[receiver as usize];
+                let delivery = reached(places, order, process);
+                let fate = delivery.fate;
+                let served = delivery.process;
+                processes[receiver as usize] = served;
+                if posting::is_handed(fate) {
+                    let message = order.message;
+                    wakes = posting::pushed(wakes, receiver, fate, message);
+                }
+            }
+            carried += common::one_if(is_due) as u64;
+            let onward = order.onward(clock);
+            if onward.stays {
+                let next = onward.order;
+                let due = next.due;
+                orders.places[at] = next;
+                nearest = common::least_u32(nearest, clock.until(due));
+                at += 1;
+            } else {
+                orders = orders.without_place(at);
+                standing -= 1;
+            }
+        } else {
+            let passed = common::least_u32(left - 1, nearest - 1);
+            clock = clock.forward(passed as u64 + 1);
+            left -= passed + 1;
+            nearest = day::DAY;
+            at = 0;
+        }
     }
-    let processes = posting.processes;
-    let wakes = posting.wakes;
+    if 0 < carried {
+        orders = orders.without_place(orders::MOST_ORDERS);
+    }
     after.clock = clock;
     after.processes = processes;
     after.orders = orders;
