@@ -27,9 +27,6 @@ fn agree(subject: &Subject, sides: &mut [Side]) -> Result<(), String> {
     }
 }
 
-/// How many of the generator's full logs are measured.
-const SEEDS: usize = 24;
-
 /// Measures these logs on every side in so many rounds.
 fn measured(subjects: Vec<Subject>, sides: &mut [Side], rounds: usize) -> Result<Vec<Measured>, String> {
     let mut all = Vec::new();
@@ -41,11 +38,11 @@ fn measured(subjects: Vec<Subject>, sides: &mut [Side], rounds: usize) -> Result
     Ok(all)
 }
 
-/// Measures every log on every side in so many rounds; the answer is a page in Markdown.
-pub fn page(rounds: usize) -> Result<String, String> {
+/// Measures every log, and so many of the generator's full ones, on every side in so many rounds; the answer is a page in Markdown.
+pub fn page(rounds: usize, logs: usize) -> Result<String, String> {
     let mut sides = sides::all();
     let chosen = measured(logs::all(), &mut sides, rounds)?;
-    let of_seeds = measured(logs::of_seeds(SEEDS), &mut sides, rounds)?;
+    let of_seeds = measured(logs::of_seeds(logs), &mut sides, rounds)?;
     Ok(table::page(&sides, &chosen, &of_seeds, rounds))
 }
 

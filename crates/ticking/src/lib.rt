@@ -2,15 +2,11 @@
 ghost use mathlib.Core.Path.{_≡_};
 ghost use mathlib.Core.Bool.{true, false};
 ghost use Rattle.calls.specs.Effects.{outcomeOf};
-ghost use Rattle.posting.specs.Posting.{deliveredTo};
-ghost use Rattle.posting.specs.declared.Origin.the-variants.{Timed};
 ghost use Rattle.ticking.specs.Ticking.{runEffect, tickOf, ticksOf, runsOn, noneDue, clockAfter, schedulerAfter, isLull, lullOf};
 use day::TimeOfDay;
-use orders::Order;
 use orders::Orders;
 use posting::Origin;
-use process::Delivery;
-use process::Process;
+use posting::delivered;
 use table::Outcome;
 use table::Scheduler;
 use table::Table;
@@ -24,15 +20,6 @@ pub struct Lull {
     pub scheduler: Scheduler,
 }
 
-// What becomes of an order's message at its receiver.
-fn reached(places: usize, order: Order, process: Process) -> Delivery
-    ensures { λ r. ⌜ r ≡ deliveredTo Timed places (order .condition) (order .message) process ⌝ }
-{
-    let condition = order.condition;
-    let message = order.message;
-    posting::delivered(Origin::Timed, places, condition, message, process)
-}
-
 // So many ticks of a scheduler that runs on. A turn of the loop is one order of a moment, in order of acceptance, or, when all of them are through, the way to
 // the next moment at which one is due: quiet ticks are not walked. The loop writes into the arrays themselves; a function around a turn would copy
 // them for each order.
@@ -44,11 +31,12 @@ fn running_on(table: Table, count: u32) -> Outcome
     let config = after.config;
     let places = config.places as usize;
     let mut processes = after.processes;
+    let mut wakes = Wakes::none();
     let mut orders = after.orders;
     let mut clock = after.clock;
-    let mut wakes = Wakes::none();
     let mut carried: u64 = 0;
     let mut left = count;
+    // The orders before `at` are through with the moment that the clock reads, and the next that one of these is due is so far off.
     let mut nearest = orders.next_due(clock);
     let mut standing = common::least(orders.count, orders::MOST_ORDERS);
     let mut at = standing;
@@ -58,13 +46,14 @@ fn running_on(table: Table, count: u32) -> Outcome
             let receiver = order.receiver;
             let is_due = order.is_due(clock);
             if is_due & (receiver < 12) {
+                let condition = order.condition;
+                let message = order.message;
                 let process = processes[receiver as usize];
-                let delivery = reached(places, order, process);
+                let delivery = delivered(Origin::Timed, places, condition, message, process);
                 let fate = delivery.fate;
                 let served = delivery.process;
                 processes[receiver as usize] = served;
                 if posting::is_handed(fate) {
-                    let message = order.message;
                     wakes = posting::pushed(wakes, receiver, fate, message);
                 }
             }
@@ -88,6 +77,7 @@ fn running_on(table: Table, count: u32) -> Outcome
             at = 0;
         }
     }
+    // Past the last place none leaves: the free places are written anew, as each carrying out leaves them.
     if 0 < carried {
         orders = orders.without_place(orders::MOST_ORDERS);
     }

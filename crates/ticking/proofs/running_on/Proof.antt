@@ -29,7 +29,7 @@ use Rattle.ticking.proofs.running_on.Tie as tie
 
 -- the orders before `at` are through with the moment, and `nearest` is the next due moment of these alone
 abbrev Inv-loop : tie.InvT-loop
-Inv-loop count after places processes₀ orders₀ clock₀ wakes₀ carried₀ left₀ nearest₀ standing₀ at₀ processes orders clock wakes carried left nearest standing at =
+Inv-loop count after places processes₀ wakes₀ orders₀ clock₀ carried₀ left₀ nearest₀ standing₀ at₀ processes wakes orders clock carried left nearest standing at =
     (length processes ≡ 12)
     × (length (orders .places) ≡ 64)
     × (standing ≡ min (orders .count) 64)
@@ -39,7 +39,7 @@ Inv-loop count after places processes₀ orders₀ clock₀ wakes₀ carried₀ 
     × (endThrough after left clock processes wakes orders carried (take at (standingOf orders)) (drop at (standingOf orders)) ≡ endOf noWakesOf 0 (ticksOf count after))
 
 abbrev μ-loop : tie.MeasureT-loop
-μ-loop count after places processes₀ orders₀ clock₀ wakes₀ carried₀ left₀ nearest₀ standing₀ at₀ processes orders clock wakes carried left nearest standing at =
+μ-loop count after places processes₀ wakes₀ orders₀ clock₀ carried₀ left₀ nearest₀ standing₀ at₀ processes wakes orders clock carried left nearest standing at =
     65 * left + (standing - at)
 
 whole : (c : tie.Start Inv-loop μ-loop) → length (c .args .table .processes) ≡ 12
@@ -59,7 +59,7 @@ loop-holds c =
       omega arith,
       c .before .next-due .ensures ∙ ap (nextDue (start .args .table .clock)) (sym (taken-all (start .args .table .orders) (c .least .result) all)),
       omega arith,
-      through-begin (start .args .table) (c .least .result) (start .args .count) _ all ∙ ap (λ wakes. endOf wakes 0 (ticksOf (start .args .count) (start .args .table))) (c .before .before .none .ensures),
+      through-begin (start .args .table) (c .least .result) (start .args .count) _ all ∙ ap (λ wakes. endOf wakes 0 (ticksOf (start .args .count) (start .args .table))) (c .before .before .before .before .none .ensures),
     )
 
 -- an order of the moment
@@ -83,15 +83,15 @@ served c =
     λ b holds. ap (λ d. d && ltb (order .receiver) 12) (sym (c .before .before .is-due .ensures)) ∙ holds in
     ⊎-elim
     (λ w. (
-      w .8 ∙ rw (w .2 .ensures) (served-record places (loop .clock) order (loop .processes) _ (loop .inv .0) (due true (w .0 .taken))),
-      w .9 ∙ w .7 .ensures ∙ rw (w .2 .ensures) (served-wakes places (loop .clock) order (loop .processes) _ (loop .inv .0) (due true (w .0 .taken)) (loop .wakes)),
+      w .8 ∙ rw (w .3 .ensures) (served-record places (loop .clock) order (loop .processes) _ (loop .inv .0) (due true (w .0 .taken))),
+      w .9 ∙ w .7 .ensures ∙ rw (w .3 .ensures) (served-wakes places (loop .clock) order (loop .processes) _ (loop .inv .0) (due true (w .0 .taken)) (loop .wakes)),
     ))
     (λ v. ⊎-elim
     (λ w. (
-      w .6 ∙ rw (w .2 .ensures) (served-record places (loop .clock) order (loop .processes) _ (loop .inv .0) (due true (w .0 .taken))),
-      w .7
+      w .7 ∙ rw (w .3 .ensures) (served-record places (loop .clock) order (loop .processes) _ (loop .inv .0) (due true (w .0 .taken))),
+      w .8
           ∙ served-quiet places (loop .clock) order (loop .processes) _ (loop .inv .0) (due true (w .0 .taken)) (loop .wakes)
-          (sym (ap (λ (d : Delivery). isHanded (d .fate)) (w .2 .ensures)) ∙ sym (w .4 .ensures) ∙ w .5 .left),
+          (sym (ap (λ (d : Delivery). isHanded (d .fate)) (w .3 .ensures)) ∙ sym (w .5 .ensures) ∙ w .6 .left),
     ))
     (λ w. (
       w .1 ∙ unserved-record places (loop .clock) order (loop .processes) (loop .inv .0) (due false (w .0 .left)),
@@ -236,13 +236,13 @@ running-on-spec =
     (λ c. omega arith)
     (λ c. omega arith)
     (λ c κs. search needs)
-    (λ c. omega (arith, within c))
-    (λ c. omega (arith, within c))
-    (λ c. omega (arith, within c, c .before .before .before .before .before .loop .inv .0))
+    (λ c. omega (arith, within (c .before)))
+    (λ c. omega (arith, within (c .before)))
+    (λ c. omega (arith, within (c .before), c .before .before .before .before .before .before .loop .inv .0))
     (λ c κs. search needs)
-    (λ c. omega (arith, within (c .before .before .before)))
-    (λ c. omega (arith, within (c .before .before .before)))
-    (λ c. omega (arith, within (c .before .before .before), c .before .before .before .before .before .before .before .before .loop .inv .0))
+    (λ c. omega (arith, within (c .before .before .before .before)))
+    (λ c. omega (arith, within (c .before .before .before .before)))
+    (λ c. omega (arith, within (c .before .before .before .before), c .before .before .before .before .before .before .before .before .before .loop .inv .0))
     (λ c κs. search needs)
     (λ c κs. search needs)
     (λ c κs. search needs)
