@@ -1,6 +1,6 @@
 -- Document 01, "Inputs".
 use mathlib.Core.Bool.{Bool, false, _&&_}
-use mathlib.Core.List.{List, [], _∷_}
+use mathlib.Core.List.{[], _∷_}
 use Prim.Native.Nat.{ℕ}
 use lib.Dec.{eqb, leb, ltb}
 use Rattle.common.specs.Choice.{pick}
@@ -25,7 +25,7 @@ use Rattle.table.specs.Wakes.{noWakesOf, wakesOf}
 use Rattle.calls.specs.declared.Decided.{Decided}
 use Rattle.calls.specs.Decisions.{decided, decidedBy}
 use Rattle.calls.specs.Effects.{Effect, nothing, inputs, refuse, done, suspended, carrying, waking}
-use Rattle.calls.specs.Levels.{processAt, processOf, withMask, withLatch, moving}
+use Rattle.calls.specs.Levels.{processOf, withMask, withLatch, moving}
 use Rattle.calls.specs.declared.Verdict.{Verdict}
 use Rattle.calls.specs.Verdicts.{check, after, byCaller, checked, called}
 use Rattle.interrupts.specs.declared.AfterEvent.{AfterEvent}
@@ -42,10 +42,6 @@ inRun Nobody input = false
 -- "the caller owns the input"
 abbrev pub ownsInput : Config → ℕ → ℕ → Bool
 ownsInput c level input = inRun (privilegeOf c level) input
-
--- 10, 33, 11: the checks of every call that names an input
-abbrev pub inputVerdict : Config → List Process → ℕ → ℕ → Verdict
-inputVerdict c processes caller input = after (byCaller c (processAt processes caller) caller) (check (ltb input (inputsOf c)) IllegalInput ∷ [])
 
 -- "ENABLE: 11, then 9 unless the caller owns the input; sets its mask bit."
 unfoldable pub enableOf : Table → ℕ → ℕ → Effect
@@ -121,7 +117,19 @@ latchedOf t input = openedBy (ownerOf (t .config) input) (withLatch t (insertOf 
 unfoldable pub eventOf : Table → ℕ → Effect
 eventOf t input = checked t (check (isInput t input) IllegalInput ∷ []) (latchedOf t input)
 
--- ---- how the code comes to that: what AWAITINTERRUPT and an event do is decided on the parts that they need
+-- ---- how the code comes to that: what a call or an event does is decided on the parts that it needs
+
+-- 10, 33, 11: the checks of every call that names an input, of a caller with this record
+abbrev pub inputVerdict : Config → Process → ℕ → ℕ → Verdict
+inputVerdict c p caller input = after (byCaller c p caller) (check (ltb input (inputsOf c)) IllegalInput ∷ [])
+
+-- 10, 33, 11, 9: those of ENABLE
+abbrev pub enableVerdict : Config → Process → ℕ → ℕ → Verdict
+enableVerdict c p caller input =
+    after (byCaller c p caller)
+    (check (ltb input (inputsOf c)) IllegalInput
+    ∷ check (ownsInput c caller input) CommandPrivileged
+    ∷ [])
 
 -- AWAITINTERRUPT changes the caller's record alone
 

@@ -7,10 +7,12 @@ use Rattle.common.specs.Choice.{pick}
 use Rattle.process.specs.declared.buffers.Message.{Message}
 use Rattle.process.specs.declared.Condition.{Condition}
 use Rattle.process.specs.declared.Condition.the-variants.{Always, Waiting}
+use Rattle.process.specs.declared.Fate.{Fate}
 use Rattle.process.specs.declared.Process.{Process}
 use Rattle.process.specs.declared.Target.{Target}
-use Rattle.process.specs.declared.Target.the-variants.{All}
+use Rattle.process.specs.declared.Target.the-variants.{All, Level, Unknown}
 use Rattle.process.specs.Process.{isKnown}
+use Rattle.table.specs.declared.answers.Answer.{Answer}
 use Rattle.table.specs.declared.answers.Answer.the-variants.{Ok, ReceiverUnknown, ReceiverNotReady, ReceiverBufferOverflow}
 use Rattle.table.specs.declared.configs.Config.{Config}
 use Rattle.table.specs.declared.Table.{Table}
@@ -19,7 +21,7 @@ use Rattle.calls.specs.Effects.{Effect, refuse, waking}
 use Rattle.calls.specs.Levels.{withProcesses}
 use Rattle.calls.specs.Verdicts.{check, called}
 use Rattle.posting.specs.declared.Origin.the-variants.{Sent}
-use Rattle.posting.specs.Posting.{Letter, letter, Posted, allOf}
+use Rattle.posting.specs.Posting.{Letter, letter, Posted, isHanded, isFull, allOf}
 use Rattle.messages.specs.Receivers.{receiversOf}
 
 -- the same message for each receiver
@@ -52,3 +54,16 @@ sendOf t caller receiver condition m =
     (check (isKnown (receiverOf (t .config) receiver)) ReceiverUnknown
     ∷ [])
     (sentOf t (receiverOf (t .config) receiver) condition m)
+
+-- ---- how the code comes to that for one receiver
+
+-- by what became of its message
+abbrev pub sentAnswer : Condition → Fate → Answer
+sentAnswer Waiting fate = pick (isHanded fate) Ok ReceiverNotReady
+sentAnswer Always fate = pick (isFull fate) ReceiverBufferOverflow Ok
+
+-- the level that is named alone; else 12, where there is none
+abbrev pub oneLevel : Target → ℕ
+oneLevel All = 12
+oneLevel (Level level) = level
+oneLevel Unknown = 12

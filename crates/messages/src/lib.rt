@@ -1,16 +1,20 @@
 // The calls of messages: SEND, RECEIVE, AWAITMESSAGE and CLEARMESSAGE, for a table that is known to be sound.
 ghost use mathlib.Core.Path.{_≡_};
+ghost use Prim.Native.Nat.{_<_};
 ghost use Rattle.common.specs.Choice.{pick};
 ghost use Rattle.calls.specs.Effects.{outcomeOf};
 ghost use Rattle.posting.specs.Posting.{postingOf};
-ghost use Rattle.messages.specs.Sending.{sendPosted, broadcastPosted, sentOf, sendOf};
+ghost use Rattle.process.specs.declared.Target.the-variants.{Level};
+ghost use Rattle.messages.specs.Sending.{sendPosted, broadcastPosted, sentOf, sendOf, sentAnswer, oneLevel};
 ghost use Rattle.messages.specs.Receiving.{tookOf, receivedOf, receiveOf, awaitedOf, awaitMessageOf, clearingAt, allCleared, clearingFor, clearMessageOf};
 use calls::Decided;
 use calls::Verdict;
 use inputs::InputSet;
 use posting::Origin;
 use posting::Posting;
+use posting::delivered;
 use process::Condition;
+use process::Fate;
 use process::Process;
 use process::Target;
 use process::buffers::Message;
@@ -22,7 +26,7 @@ use table::answers::Answer;
 use table::configs::Config;
 use table::wakes::Wakes;
 
-// A message for every configured level, in rising order, the sender's own included.
+// A message for every configured level, in rising order, the sender's own included. Each is served in place.
 fn broadcast(
     config: Config,
     processes: [Process; 12],
@@ -35,8 +39,16 @@ fn broadcast(
     let mut posting = Posting::begin(processes);
     let mut level: u8 = 0;
     while level < 12 {
-        let wanted = config.has_level(level as u16);
-        posting = posting.post_if(wanted, Origin::Sent, places, level, condition, message);
+        if config.has_level(level as u16) {
+            let process = posting.processes[level as usize];
+            let delivery = delivered(Origin::Sent, places, condition, message, process);
+            let fate = delivery.fate;
+            let served = delivery.process;
+            let told = posting.wakes;
+            posting.processes[level as usize] = served;
+            posting.wakes = posting::pushed(told, level, fate, message);
+            posting.full = posting.full | posting::is_full(fate);
+        }
         level += 1;
     }
     posting
@@ -91,6 +103,57 @@ fn sent(table: Table, target: Target, condition: Condition, message: Message) ->
     }
 }
 
+// The answer of SEND to one receiver.
+fn sent_answer(condition: Condition, fate: Fate) -> Answer
+    ensures { λ r. ⌜ r ≡ sentAnswer condition fate ⌝ }
+{
+    match condition {
+        Condition::Waiting => {
+            if posting::is_handed(fate) {
+                Answer::Ok
+            } else {
+                Answer::ReceiverNotReady
+            }
+        }
+        Condition::Always => {
+            if posting::is_full(fate) {
+                Answer::ReceiverBufferOverflow
+            } else {
+                Answer::Ok
+            }
+        }
+    }
+}
+
+// SEND to one of the twelve levels, in place. Where nobody waited its record is put back as it was.
+fn sent_to(table: Table, level: u8, condition: Condition, message: Message) -> Outcome
+    requires { ⌜ level < 12 ⌝ }
+    ensures { λ r. ⌜ r ≡ outcomeOf (sentOf table (Level level) condition message) ⌝ }
+{
+    let mut after = table;
+    let config = after.config;
+    let places = config.places as usize;
+    let process = after.processes[level as usize];
+    let delivery = delivered(Origin::Sent, places, condition, message, process);
+    let fate = delivery.fate;
+    let served = delivery.process;
+    let answer = sent_answer(condition, fate);
+    let wakes = posting::pushed(Wakes::none(), level, fate, message);
+    after.processes[level as usize] = served;
+    calls::answered(after, answer, wakes)
+}
+
+// The level that is named alone; else 12, where there is none.
+fn one_level(target: Target) -> u8
+    ensures { λ r. ⌜ r ≡ oneLevel target ⌝ }
+{
+    match target {
+        Target::All => 12,
+        Target::Level(level) => level,
+        Target::Unknown => 12,
+    }
+}
+
 pub fn send(
     table: Table,
     caller: u8,
@@ -110,7 +173,14 @@ pub fn send(
     );
     match verdict {
         Verdict::Refused(answer) => table.refused(answer),
-        Verdict::Passed => sent(table, target, condition, message),
+        Verdict::Passed => {
+            let level = one_level(target);
+            if level < 12 {
+                sent_to(table, level, condition, message)
+            } else {
+                sent(table, target, condition, message)
+            }
+        }
     }
 }
 

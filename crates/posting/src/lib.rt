@@ -1,7 +1,6 @@
 // How messages reach their receivers, whether a process sent them or a timer order carries them: one after the other, with the
 // marks of those that lost one and the wakes of those that waited.
 ghost use mathlib.Core.Path.{_≡_};
-ghost use Rattle.common.specs.Choice.{pick};
 ghost use Rattle.posting.specs.Posting.{letter, isHanded, isFull, isLost, markedBy, deliveredTo, beginOf, pushedFor, stepOf};
 use inputs::InputSet;
 use process::Condition;
@@ -163,24 +162,5 @@ impl Posting {
             posting.full = posting.full | is_full(missed);
         }
         posting
-    }
-
-    // The same, where the message is for this level at all.
-    pub fn post_if(
-        self,
-        wanted: bool,
-        origin: Origin,
-        places: usize,
-        receiver: u8,
-        condition: Condition,
-        message: Message,
-    ) -> Posting
-        ensures { λ r. ⌜ r ≡ pick wanted (stepOf origin places self (letter receiver condition message)) self ⌝ }
-    {
-        if wanted {
-            self.post(origin, places, receiver, condition, message)
-        } else {
-            self
-        }
     }
 }

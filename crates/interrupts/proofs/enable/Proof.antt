@@ -1,41 +1,38 @@
-use mathlib.Core.Path.{_∙_, sym}
+use mathlib.Core.Path.{_≡_, _∙_, ap, sym}
 use native.Mathlib.Omega.{arith}
 use borrow.Author.Needs.{needs}
-use Rattle.calls.specs.Verdicts.{obeyed}
-use Rattle.calls.proofs.Obeying.{outcome-alone, refused-by, last-passed}
-use Rattle.interrupts.specs.Interrupts.{enableOf}
-use Rattle.interrupts.proofs.Fitting.{input-fits}
+use Rattle.process.specs.declared.Process.{Process}
+use Rattle.calls.specs.Levels.{processOf}
+use Rattle.calls.proofs.Obeying.{outcome-alone, refused-by, passed-all}
+use Rattle.interrupts.specs.Interrupts.{enableVerdict, enableOf}
+use Rattle.interrupts.proofs.Fitting.{enable-fits}
 use Rattle.interrupts.proofs.enable.Statement.{statement}
 use Rattle.interrupts.proofs.enable.Tie as tie
 
+-- the checks are made on the caller's record
+seen : (c : tie.After-enable-checked) → c .enable-checked .result ≡ enableVerdict (c .before .before .before .before .args .table .config) (processOf (c .before .before .before .before .args .table) (c .before .before .before .before .args .caller)) (c .before .before .before .before .args .caller) (c .before .before .before .before .args .input)
+seen c = c .enable-checked .ensures ∙ ap (λ (p : Process). enableVerdict (c .before .before .before .before .args .table .config) p (c .before .before .before .before .args .caller) (c .before .before .before .before .args .input)) (c .before .process-at .ensures)
+
 cast-insert : tie.Need-cast-insert
 cast-insert c =
-    let made = c .before .before .before in
-    let first = made .before .before in
-    let asked = first .before .before .before .args in
-    let second = last-passed _ _ _ (sym (made .check .ensures) ∙ c .before .enum-told .given .1) in
-    omega (arith, input-fits (asked .table .config) (asked .table .processes) (asked .caller) (asked .input) (sym (first .input-checked .ensures) ∙ second .0))
+    let asked = c .before .before .before .before .before .before .before .args in
+    omega (arith, enable-fits (asked .table .config) (processOf (asked .table) (asked .caller)) (asked .caller) (asked .input) (sym (seen (c .before .before .before)) ∙ c .before .enum-told .given .1))
 
 returns : tie.Need-returns
 unfolding enableOf
-returns c =
-    let made = c .before .before .before .before in
-    refused-by _ _ _ _ _ (c .refused .ensures)
-    (rw (← made .before .before .input-checked .ensures, ← made .before .owns-input .ensures, ← made .check .ensures) (c .before .before .verdict .given .1))
+returns c = refused-by _ _ _ _ _ (c .refused .ensures) (sym (seen (c .before .before .before .before)) ∙ c .before .before .verdict .given .1)
 
 returns-2 : tie.Need-returns-2
-unfolding enableOf obeyed
+unfolding enableOf
 returns-2 c =
-    let passed = c .before .before .before .before in
-    let made = passed .before .before in
-    rw (← made .before .before .input-checked .ensures, ← made .before .owns-input .ensures, ← made .check .ensures, passed .enum-told .given .1)
+    passed-all _ _ _ _
     (c .answered .ensures ∙ rw (c .before .none .ensures, outcome-alone, c .before .before .insert .ensures))
+    (sym (seen (c .before .before .before .before .before .before)) ∙ c .before .before .before .before .enum-told .given .1)
 
 pub enable-spec : {M : Type 1} → statement M
 enable-spec =
     tie.close
     (tie.spec
-    (λ c κs. search needs)
     (λ c κs. search needs)
     (λ c κs. search needs)
     (λ c. search needs)

@@ -1,35 +1,39 @@
-use mathlib.Core.Path.{_∙_, sym}
+use mathlib.Core.Path.{_≡_, _∙_, ap, sym}
 use native.Mathlib.Omega.{arith}
 use borrow.Author.Needs.{needs}
+use Rattle.process.specs.declared.Process.{Process}
+use Rattle.calls.specs.Levels.{processOf}
 use Rattle.calls.proofs.Obeying.{outcome-alone, refused-by, passed-all}
-use Rattle.interrupts.specs.Interrupts.{resetInterruptOf}
+use Rattle.interrupts.specs.Interrupts.{inputVerdict, resetInterruptOf}
 use Rattle.interrupts.proofs.Fitting.{input-fits}
 use Rattle.interrupts.proofs.reset_interrupt.Statement.{statement}
 use Rattle.interrupts.proofs.reset_interrupt.Tie as tie
 
+-- the checks are made on the caller's record
+seen : (c : tie.After-input-checked) → c .input-checked .result ≡ inputVerdict (c .before .before .before .before .args .table .config) (processOf (c .before .before .before .before .args .table) (c .before .before .before .before .args .caller)) (c .before .before .before .before .args .caller) (c .before .before .before .before .args .input)
+seen c = c .input-checked .ensures ∙ ap (λ (p : Process). inputVerdict (c .before .before .before .before .args .table .config) p (c .before .before .before .before .args .caller) (c .before .before .before .before .args .input)) (c .before .process-at .ensures)
+
 cast-remove : tie.Need-cast-remove
 cast-remove c =
-    let made = c .before .before .before in
-    let asked = made .before .before .before .args in
-    omega (arith, input-fits (asked .table .config) (asked .table .processes) (asked .caller) (asked .input) (sym (made .input-checked .ensures) ∙ c .before .enum-told .given .1))
+    let asked = c .before .before .before .before .before .before .before .args in
+    omega (arith, input-fits (asked .table .config) (processOf (asked .table) (asked .caller)) (asked .caller) (asked .input) (sym (seen (c .before .before .before)) ∙ c .before .enum-told .given .1))
 
 returns : tie.Need-returns
 unfolding resetInterruptOf
-returns c =
-    refused-by _ _ _ _ _ (c .refused .ensures) (sym (c .before .before .before .before .input-checked .ensures) ∙ c .before .before .verdict .given .1)
+returns c = refused-by _ _ _ _ _ (c .refused .ensures) (sym (seen (c .before .before .before .before)) ∙ c .before .before .verdict .given .1)
 
 returns-2 : tie.Need-returns-2
 unfolding resetInterruptOf
 returns-2 c =
-    let passed = c .before .before .before .before in
     passed-all _ _ _ _
     (c .answered .ensures ∙ rw (c .before .none .ensures, outcome-alone, c .before .before .remove .ensures))
-    (sym (passed .before .before .input-checked .ensures) ∙ passed .enum-told .given .1)
+    (sym (seen (c .before .before .before .before .before .before)) ∙ c .before .before .before .before .enum-told .given .1)
 
 pub reset-interrupt-spec : {M : Type 1} → statement M
 reset-interrupt-spec =
     tie.close
     (tie.spec
+    (λ c κs. search needs)
     (λ c κs. search needs)
     (λ c. search needs)
     (λ c κs. search needs)
