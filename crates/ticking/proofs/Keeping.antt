@@ -26,7 +26,8 @@ use Rattle.table.specs.Sound.{orderNames, orderSound, ordersSound}
 use Rattle.table.proofs.Ordered.{every-append, orders-count, orders-standing, standing-few, made-places, made-sound}
 use Rattle.calls.specs.Levels.{withClock}
 use Rattle.calls.proofs.Keeping.{Steady, steady-scheduler, steady-clock, steady-orders, steady-processes}
-use Rattle.ticking.specs.Ticking.{Run, letterOf, carriedOut, dueNow, carryingOut, stopping, passing, tickAt, tickOf, ticksOf}
+use Rattle.ticking.proofs.Quieting.{by-tick}
+use Rattle.ticking.specs.Ticking.{letterOf, carriedOut, dueNow, carryingOut, stopping, passing, tickAt, tickOf, ticksOf}
 
 -- ---- what is left of orders after a moment
 
@@ -80,20 +81,18 @@ module _ (c : Config) (now : TimeOfDay) where
 
 -- the tick at which the clock reads a time of day
 at-keeps : (now : TimeOfDay) (t : Table) → now .milliseconds < day → Steady t → Steady (tickAt now t .table)
-unfolding tickAt stopping passing carryingOut carriedOut
+unfolding stopping passing carryingOut carriedOut
 at-keeps now t within steady =
     let clocked : Steady (withClock t now) = steady-clock t now steady (lt-ltb (now .milliseconds) day within) in
     let good = advance-good (t .config) now (t .orders) (steady .places) (steady .parts .orders) in
     let letters = map letterOf (dueNow now t) in
-    let keeps : Run → Type 0 = (λ x. Steady (x .table)) in
-    by-pick keeps (t .scheduler .running) _ _
-    (by-pick keeps (t .scheduler .switch) _ _
+    by-tick (λ x. Steady (x .table)) now t
     (steady-scheduler (withClock t now) _ clocked)
     (steady-orders _ (advanceOf now (t .orders))
     (steady-processes (withClock t now) _ clocked
     (letters-whole Timed (t .config .places) letters (t .processes) (steady .processes))
     (letters-keep t Timed letters (t .processes) (steady .processes) (steady .parts .levels)))
-    (good .0) (good .1)))
+    (good .0) (good .1))
     clocked
 
 -- a tick leaves a steady table

@@ -1,5 +1,5 @@
-pub mod Keeping
-pub mod Moments
-pub mod Lulls
 pub mod Quieting
+pub mod Lulls
+pub mod Moments
 pub mod Waking
+pub mod Keeping

@@ -1,5 +1,5 @@
 -- Quiet ticks. Assumes nothing.
-use mathlib.Core.Path.{_≡_, _∙_, refl, ap, ap₂, sym}
+use mathlib.Core.Path.{_≡_, _∙_, refl, ap, ap₂, sym, subst}
 use mathlib.Core.Bool.{true, false}
 use mathlib.Core.List.{List, [], _∷_, _++_, append-nil, append-assoc}
 use Prim.Native.Nat.{ℕ, zero, suc, _+_, _-_, _<_, _≤_}
@@ -18,7 +18,7 @@ use Rattle.day.proofs.Until.{until-range}
 use Rattle.orders.specs.declared.Order.{Order}
 use Rattle.orders.specs.declared.Orders.{Orders}
 use Rattle.orders.specs.Orders.{standingOf}
-use Rattle.orders.specs.Advance.{dueOf, nextDue, nextDueOf}
+use Rattle.orders.specs.Advance.{dueOf, advanceOf, nextDue, nextDueOf}
 use Rattle.orders.proofs.Nearest.{quiet-none}
 use Rattle.orders.proofs.Tables.{due-counted, advance-none}
 use Rattle.posting.specs.Posting.{allOf}
@@ -99,6 +99,20 @@ tick-running now t runs stays = rw (runs, stays)
 pub tick-stopped : (now : TimeOfDay) (t : Table) → t .scheduler .running ≡ false → tickAt now t ≡ passing now t
 unfolding tickAt
 tick-stopped now t rests = rw rests
+
+-- so what holds of all three holds of a tick
+pub by-tick : (P : Run → Type 0) (now : TimeOfDay) (t : Table) → P (stopping now t) → P (carryingOut now t) → P (passing now t) → P (tickAt now t)
+by-tick P now t stops carries passes =
+    by-test (t .scheduler .running)
+    (λ runs. by-test (t .scheduler .switch)
+    (λ set. subst P (sym (tick-stops now t runs set)) stops)
+    (λ stays. subst P (sym (tick-running now t runs stays)) carries))
+    (λ rests. subst P (sym (tick-stopped now t rests)) passes)
+
+-- "Either way the carrying out counts.": what became of the messages makes no difference to the orders
+pub counts-either-way : (now : TimeOfDay) (t : Table) → carryingOut now t .table .orders ≡ advanceOf now (t .orders)
+unfolding carryingOut
+counts-either-way now t = refl
 
 -- ---- the scheduler runs
 

@@ -4,9 +4,8 @@ use mathlib.Core.Bool.{true, false}
 use mathlib.Core.List.{List, map, map-append}
 use Prim.Native.Nat.{ℕ, zero, suc, _≤_}
 use lib.ListN.{length, length-map}
-use Rattle.common.specs.Choice.{pick}
 use Rattle.common.specs.Stands.{standsIn, Once}
-use Rattle.common.proofs.Cases.{by-test, by-pick, never-both}
+use Rattle.common.proofs.Cases.{by-test, never-both}
 use Rattle.common.proofs.Once.{stands-either, once-append, once-below}
 use Rattle.day.specs.declared.TimeOfDay.{TimeOfDay}
 use Rattle.day.specs.TimeOfDay.{forwardOf}
@@ -18,21 +17,14 @@ use Rattle.process.specs.States.{isOf}
 use Rattle.table.specs.declared.Table.{Table}
 use Rattle.table.specs.declared.wakes.Wake.{Wake}
 use Rattle.calls.specs.Levels.{processOf}
-use Rattle.ticking.specs.Ticking.{Run, letterOf, carriedOut, dueNow, carryingOut, stopping, passing, tickAt, tickOf, ticksOf}
+use Rattle.ticking.proofs.Quieting.{by-tick}
+use Rattle.ticking.specs.Ticking.{letterOf, carriedOut, dueNow, carryingOut, stopping, passing, tickAt, tickOf, ticksOf}
 
 -- the levels that wake, in order
 abbrev wokenIn : List Wake → List ℕ
 wokenIn wakes = map (λ w. w .level) wakes
 
 -- ---- one tick
-
--- a tick stops the scheduler, carries out orders, or passes
-by-tick : (P : Run → Type 0) (now : TimeOfDay) (t : Table) → P (stopping now t) → P (carryingOut now t) → P (passing now t) → P (tickAt now t)
-unfolding tickAt
-by-tick P now t stops carries passes =
-    by-pick P (t .scheduler .running) (pick (t .scheduler .switch) (stopping now t) (carryingOut now t)) (passing now t)
-    (by-pick P (t .scheduler .switch) (stopping now t) (carryingOut now t) stops carries)
-    passes
 
 module _ (now : TimeOfDay) (t : Table) where
   -- who wakes in a tick waited for a message before it
