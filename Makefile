@@ -4,9 +4,9 @@
 COUNT ?= 10000
 SEED ?= 1
 
-# How often `make bench` measures each log, and how many of the generator's full logs it measures.
-ROUNDS ?= 9
-LOGS ?= 24
+# How often `make bench` measures each log, and how many of the generator's full logs it measures, where it is to be other than bench/ says.
+ROUNDS ?=
+LOGS ?=
 
 # The crates whose further must-fail edits `make edits` tries: all that have some, unless some are named.
 CRATES ?=
@@ -46,7 +46,7 @@ golden: model
 # How long listings take, the model's and ours in one run, both compiled for this machine (tools/library says how, where it is no x86-64).
 bench:
 	tools/library
-	cd bench && RTMS_LIBRARY_DIR=$(CURDIR)/target/staticlib cargo run --offline --release --quiet --features in-process -- --rounds $(ROUNDS) --logs $(LOGS)
+	cd bench && RTMS_LIBRARY_DIR=$(CURDIR)/target/staticlib cargo run --offline --release --quiet --features in-process -- $(ROUNDS:%=--rounds %) $(LOGS:%=--logs %)
 
 # The model, and the tools around it.
 model:

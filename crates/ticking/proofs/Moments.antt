@@ -59,13 +59,13 @@ endThrough t left now processes wakes o carried done rest =
 
 module _ (t : Table) (left : ℕ) (now : TimeOfDay) (processes : List Process) (wakes : Wakes) (carried : ℕ) (done : List Order) (x : Order) (rest : List Order) where
   -- one that is not due stands as it is
-  pub through-later : (o : Orders) → dueAt now x ≡ false
+  through-later : (o : Orders) → dueAt now x ≡ false
       → endThrough t left now processes wakes o carried done (x ∷ rest) ≡ endThrough t left now processes wakes o carried (done ++ (x ∷ [])) rest
   unfolding endThrough dueOf keepOf leftsOf onwardOf
   through-later o later = rw (later, append-assoc done (x ∷ []) (advancing now rest))
 
   -- one that is due is carried out, and what is left of it stands
-  pub through-due : (o p : Orders) → dueAt now x ≡ true
+  through-due : (o p : Orders) → dueAt now x ≡ true
       → endThrough t left now processes wakes o carried done (x ∷ rest)
       ≡ endThrough t left now (oneOf Timed (t .config .places) (letterOf x) processes .processes)
       (foldOf wakePushOf wakes (oneOf Timed (t .config .places) (letterOf x) processes .wakes)) p (carried + 1) (done ++ leftOf (onwardOf now x)) rest
