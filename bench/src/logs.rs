@@ -105,7 +105,7 @@ fn messages() -> Option<Vec<Record>> {
 }
 
 /// The semaphores at the ends of the two usable runs.
-const NUMBERS: [i16; 4] = [0, 31, 51, 95];
+const NUMBERS: [i16; 4] = [0, 31, 50, 95];
 
 /// Requests and releases. Each process asks only for numbers above those that it holds, so that no two wait for each
 /// other and one is always READY.

@@ -1,5 +1,5 @@
-// Document 01's "Cases to settle", run: a line for each, with what is asked and what comes. (Those marked p are proved: specs/Cases.) Then the pool of
-// document 02, §1, as a host lends it.
+// Document 01's "Cases to settle", with semaphore 50 as document 02, §2, changes them, run: a line for each, with what is asked and what comes. (Those
+// marked p are proved: specs/Cases.) Then the pool of document 02, §1, as a host lends it.
 use day::Fields;
 use day::Made;
 use day::TimeOfDay;
@@ -258,9 +258,10 @@ fn at(milliseconds: u32) -> TimeOfDay {
 fn main() {
     usable(31);
     usable(51);
+    usable(50);
     usable(95);
     usable(32);
-    usable(50);
+    usable(49);
     usable(96);
     usable(128);
     interval(0);

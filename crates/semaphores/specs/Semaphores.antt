@@ -1,5 +1,5 @@
 -- Document 01, "Semaphores".
-use mathlib.Core.Bool.{Bool, true, false}
+use mathlib.Core.Bool.{Bool, true, false, _&&_, _||_}
 use mathlib.Core.List.{List, [], _∷_, _++_}
 use Prim.Native.Nat.{ℕ, zero, suc}
 use lib.Dec.{eqb, leb}
@@ -19,9 +19,9 @@ use Rattle.semaphores.specs.declared.Released.the-variants.{NotHeld, Fre
 use Rattle.semaphores.specs.declared.ReleaseAll.{ReleaseAll}
 use Rattle.semaphores.specs.Queues.{emptyOf, pushOf, leavingOf, levelsFor, listOf, levelled, withOf}
 
--- "Usable: 0..31 and 51..95, as the manual's table has it."
+-- document 02, §2: "Its text is right: usable are 0..31 and 50..95; .. and 49 is not usable." (Document 01 had the manual's table, 51..95.)
 unfoldable pub usableOf : ℕ → Bool
-usableOf number = pick (leb number 31) true (pick (leb 51 number) (leb number 95) false)
+usableOf number = leb number 31 || (leb 50 number && leb number 95)
 
 -- document 01, "Answer numbers": 6 PARAMERROR, 0 OK, 32 SUSPENDED
 abbrev pub requestedNumber : Requested → ℕ

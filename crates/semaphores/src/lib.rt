@@ -74,11 +74,11 @@ impl Released {
     }
 }
 
-// The numbers that manual 2.6 has for semaphores.
+// A number that processes may use: 0..31 for devices, 50..95 for whatever else they share.
 pub fn usable(number: u16) -> bool
     ensures { λ r. ⌜ r ≡ usableOf number ⌝ }
 {
-    (number <= 31) | ((51 <= number) & (number <= 95))
+    (number <= 31) | ((50 <= number) & (number <= 95))
 }
 
 impl Semaphores {

@@ -23,7 +23,7 @@ pub type Semaphores = BTreeMap<u8, Semaphore>;
 /// The semaphore of this number, if processes may use it.
 pub fn usable(number: i16) -> Option<u8> {
     let number = u8::try_from(number).ok()?;
-    matches!(number, 0..=31 | 51..=95).then_some(number)
+    matches!(number, 0..=31 | 50..=95).then_some(number)
 }
 
 impl Executive {

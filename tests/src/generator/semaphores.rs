@@ -4,24 +4,31 @@ use super::Generator;
 use crate::log::{kind, Record};
 use crate::random::Random;
 
-/// Up to four usable numbers, often those at the ends of the two runs.
+/// The least number of the second run, a gate before others in plants' programs.
+const GATE: i16 = 50;
+
+/// Up to four usable numbers, often those at the ends of the two runs, the gate most of all.
 pub fn some_usable(random: &mut Random) -> Vec<i16> {
     let number = random.between(1, 4);
     (0..number)
         .map(|_| match random.below(3) {
             0 => random.between(0, 31) as i16,
-            1 => random.between(51, 95) as i16,
-            _ => random.pick(&[0, 31, 51, 95]).unwrap_or(0),
+            1 => random.between(GATE.into(), 95) as i16,
+            _ => random.pick(&[GATE, GATE, 0, 31, 95]).unwrap_or(GATE),
         })
         .collect()
 }
 
 impl Generator {
+    /// Mostly one of the few of this log; else the gate or the number below it, or one at another limit or beyond it.
     fn semaphore(&mut self) -> i16 {
-        if self.random.chance(90) {
-            return self.random.pick(&self.semaphores).unwrap_or(0);
-        }
-        self.random.pick(&[32, 50, 96, 127, 128, -1, -2, 255, i16::MAX, i16::MIN, 31, 51, 95]).unwrap_or(32)
+        let odd = [31, 32, 51, 95, 96, 127, 128, 255, -1, -2, i16::MAX, i16::MIN];
+        let number = match self.random.below(100) {
+            0..=87 => self.random.pick(&self.semaphores),
+            88..=93 => self.random.pick(&[GATE, GATE - 1]),
+            _ => self.random.pick(&odd),
+        };
+        number.unwrap_or(GATE)
     }
 
     pub(super) fn request(&mut self) -> Record {

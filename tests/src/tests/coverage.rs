@@ -6,8 +6,9 @@ use crate::effort::is_small;
 use crate::executive::configuration::LARGEST_POOL;
 use crate::executive::outcome::Addition;
 use crate::generator;
+use crate::log::kind;
 use crate::run::{run, Run};
-use std::collections::BTreeSet;
+use std::collections::{BTreeMap, BTreeSet};
 use std::time::{Duration, Instant};
 
 /// Every kind with the answers that the rules allow it. 10 and 33 belong to every call of a process.
@@ -93,6 +94,41 @@ fn random_configurations_have_pools_of_every_sort() {
     let sizes: BTreeSet<u16> = (1..=2_000).map(|seed| generator::records(seed)[0].millisecond).collect();
     for size in [0, 1, LARGEST_POOL - 1, LARGEST_POOL, LARGEST_POOL + 1, u16::MAX] {
         assert!(sizes.contains(&size), "{size}");
+    }
+}
+
+/// Kind, first parameter and answer of a call of a run, and in how many of the runs of the first seeds there is one.
+fn runs_with(seeds: u64) -> BTreeMap<(u8, i16, u8), u64> {
+    let mut runs = BTreeMap::new();
+    for seed in 1..=seeds {
+        let Run::Obeyed { records, outcomes } = run(&generator::log(seed)) else {
+            continue;
+        };
+        let answered = records.iter().skip(1).zip(&outcomes);
+        let calls: BTreeSet<(u8, i16, u8)> = answered
+            .map(|(record, outcome)| (record.kind, record.first_parameter, outcome.answer.number()))
+            .collect();
+        for call in calls {
+            *runs.entry(call).or_default() += 1;
+        }
+    }
+    runs
+}
+
+/// The gate that plants' programs take before other semaphores, and the number below it, which is not usable.
+#[test]
+fn random_logs_often_ask_for_semaphores_50_and_49() {
+    let runs = runs_with(1_000);
+    for call in [
+        (kind::REQSEMA, 50, 0),
+        (kind::REQSEMA, 50, 32),
+        (kind::RELSEMA, 50, 0),
+        (kind::RELSEMA, 50, 15),
+        (kind::REQSEMA, 49, 6),
+        (kind::RELSEMA, 49, 15),
+    ] {
+        let times = runs.get(&call).copied().unwrap_or(0);
+        assert!(times >= 30, "kind, number and answer {call:?}: in {times} of 1,000 logs");
     }
 }
 
