@@ -1,5 +1,5 @@
-// Document 01's "Cases to settle", with semaphore 50 as document 02, §2, changes them, run: a line for each, with what is asked and what comes. (Those
-// marked p are proved: specs/Cases.) Then the pool of document 02, §1, as a host lends it.
+// Document 01's "Cases to settle", run: a line for each, with what is asked and what comes. (Those marked p are proved: specs/Cases.) Semaphores 50 and 49
+// are as document 02, §2, has them. Then the pool of document 02, §1, as a host lends it.
 use day::Fields;
 use day::Made;
 use day::TimeOfDay;
@@ -257,8 +257,8 @@ fn at(milliseconds: u32) -> TimeOfDay {
 
 fn main() {
     usable(31);
-    usable(51);
     usable(50);
+    usable(51);
     usable(95);
     usable(32);
     usable(49);
