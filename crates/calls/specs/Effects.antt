@@ -40,6 +40,10 @@ waking answer wakes t = record { answer = answer; carried = nothing; wakes = wak
 abbrev pub refuse : Table → Answer → Effect
 refuse t answer = waking answer [] t
 
+-- document 02, §3: "37 NOTHOLDER with the holder's level, or 255 if free", the one refusal that carries something: the table as it was
+abbrev pub refuseTelling : Table → ℕ → Effect
+refuseTelling t holder = record { answer = Answer.NotHolder; carried = number holder; wakes = []; table = t }
+
 -- 0 OK, and this table
 abbrev pub done : Table → Effect
 done t = waking Answer.Ok [] t

@@ -7,6 +7,7 @@ use Rattle.process.specs.Messages.{zeros}
 use Rattle.table.specs.declared.answers.Answer.{Answer}
 use Rattle.table.specs.declared.answers.Answer.the-variants.{Ok, BufferOverflow, TimeCondition}
 use Rattle.table.specs.declared.wakes.Wakes.{Wakes}
+use Rattle.table.specs.declared.Shown.{Shown}
 use Rattle.table.specs.declared.Shown.the-variants as Shown
 use Rattle.table.specs.declared.Outcome.{Outcome}
 use Rattle.table.specs.declared.Table.{Table}
@@ -21,6 +22,10 @@ toldAs Nothing = Ok
 toldAs Overflow = BufferOverflow
 toldAs Time = TimeCondition
 
--- a number and the wakes
+-- an answer that carries a number or nothing, and the wakes
+abbrev pub repliedOf : Table → Answer → Shown → ℕ → Wakes → Outcome
+repliedOf t answer shown n wakes = record { answer = answer; shown = shown; message = zeros; inputs = emptyOf; number = n; wakes = wakes; table = t }
+
+-- 0 with a number, and the wakes
 unfoldable pub carriesNumber : Table → ℕ → Wakes → Outcome
-carriesNumber t n wakes = record { answer = Ok; shown = Shown.Number; message = zeros; inputs = emptyOf; number = n; wakes = wakes; table = t }
+carriesNumber t n wakes = repliedOf t Ok Shown.Number n wakes

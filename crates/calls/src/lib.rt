@@ -5,7 +5,7 @@ ghost use Rattle.calls.specs.Decisions.{decided, toldOf};
 ghost use Rattle.calls.specs.Effects.{nothing};
 ghost use Rattle.calls.specs.Levels.{processAt};
 ghost use Rattle.calls.specs.Verdicts.{alsoOf, byCaller};
-ghost use Rattle.calls.specs.Outcomes.{answeredOf, carriesNumber, toldAs};
+ghost use Rattle.calls.specs.Outcomes.{answeredOf, carriesNumber, repliedOf, toldAs};
 use inputs::InputSet;
 use process::Process;
 use process::buffers::Message;
@@ -140,17 +140,24 @@ pub fn told_as(told: Told) -> Answer
     }
 }
 
-// A number, and who wakes.
-pub fn with_number(table: Table, number: u64, wakes: Wakes) -> Outcome
-    ensures { λ r. ⌜ r ≡ carriesNumber table number wakes ⌝ }
+// An answer that carries a number or nothing, and who wakes.
+pub fn replied(table: Table, answer: Answer, shown: Shown, number: u64, wakes: Wakes) -> Outcome
+    ensures { λ r. ⌜ r ≡ repliedOf table answer shown number wakes ⌝ }
 {
     Outcome {
-        answer: Answer::Ok,
-        shown: Shown::Number,
+        answer,
+        shown,
         message: Message::ZEROS,
         inputs: InputSet::empty(),
         number,
         wakes,
         table,
     }
+}
+
+// 0 with a number, and who wakes.
+pub fn with_number(table: Table, number: u64, wakes: Wakes) -> Outcome
+    ensures { λ r. ⌜ r ≡ carriesNumber table number wakes ⌝ }
+{
+    replied(table, Answer::Ok, Shown::Number, number, wakes)
 }

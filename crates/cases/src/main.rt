@@ -1,5 +1,5 @@
 // Document 01's "Cases to settle", run: a line for each, with what is asked and what comes. (Those marked p are proved: specs/Cases.) Semaphores 50 and 49
-// are as document 02, §2, has them. Then the pool of document 02, §1, as a host lends it.
+// are as document 02, §2, has them. Then the pool of document 02, §1, as a host lends it, and why RELSEMA is refused, §3.
 use day::Fields;
 use day::Made;
 use day::TimeOfDay;
@@ -8,9 +8,11 @@ use process::Condition;
 use process::buffers::Message;
 use rtms::message_calls;
 use rtms::pool_calls;
+use rtms::semaphore_calls;
 use rtms::state_calls;
 use rtms::timer_calls;
 use table::Outcome;
+use table::Shown;
 use table::Table;
 use table::configs::Config;
 use table::configs::Privileged;
@@ -251,6 +253,31 @@ fn get_at(offset: u16, count: u16, missing: usize) {
     end();
 }
 
+// Level 2 holds semaphore 7, and level 3 may call.
+fn held() -> Table {
+    let both = state_calls::start(started(TimeOfDay::MIDNIGHT), 3, 32);
+    let requested = semaphore_calls::request(both.table, 2, 7);
+    requested.table
+}
+
+// A number that a level releases, the answer, and the holder where one is told.
+fn release(caller: u8, asked: u16) {
+    let outcome = semaphore_calls::release(held(), caller, asked);
+    let shown = outcome.shown;
+    word(b"release");
+    number(caller as u64);
+    number(asked as u64);
+    answer(outcome);
+    match shown {
+        Shown::Number => number(outcome.number),
+        Shown::Nothing => word(b" nothing"),
+        Shown::Message => word(b" message"),
+        Shown::Inputs => word(b" inputs"),
+        Shown::Data => word(b" data"),
+    }
+    end();
+}
+
 fn at(milliseconds: u32) -> TimeOfDay {
     TimeOfDay { milliseconds }
 }
@@ -281,4 +308,9 @@ fn main() {
     get_at(1, 4, 0);
     get_at(65_535, 4, 0);
     get_at(0, 4, 1);
+    release(3, 7);
+    release(3, 8);
+    release(3, 49);
+    release(3, 65_535);
+    release(2, 7);
 }

@@ -1,5 +1,5 @@
 -- What is decided on the parts of a table comes to what the call does. Assumes nothing.
-use mathlib.Core.Path.{_≡_}
+use mathlib.Core.Path.{_≡_, refl}
 use mathlib.Core.List.{[], map}
 use Prim.Native.Nat.{ℕ, min}
 use lib.Dec.{eqb}
@@ -12,7 +12,8 @@ use Rattle.process.specs.declared.Process.{Process}
 use Rattle.semaphores.specs.declared.Requested.{Requested}
 use Rattle.semaphores.specs.declared.Requested.the-variants.{Unusable, Held, Waits}
 use Rattle.semaphores.specs.declared.Released.{Released}
-use Rattle.semaphores.specs.declared.Released.the-variants.{NotHeld, Freed, HandedTo}
+use Rattle.semaphores.specs.declared.Released.the-variants.{NotHolder, Freed, HandedTo}
+use Rattle.semaphores.specs.declared.Released.the-variants as Released
 use Rattle.semaphores.specs.declared.Semaphores.{Semaphores}
 use Rattle.semaphores.specs.Queues.{levelled, noneOf, withOf}
 use Rattle.semaphores.specs.Semaphores.{requestOf as requestsOf, releaseOf as releasesOf, releaseAllOf}
@@ -24,12 +25,12 @@ use Rattle.table.specs.Wakes.{noWakesOf, wakesOf}
 use Rattle.table.specs.Words.{minusOne}
 use Rattle.calls.specs.declared.Verdict.{Verdict}
 use Rattle.calls.specs.declared.Verdict.the-variants.{Passed, Refused}
-use Rattle.calls.specs.Effects.{waking, outcomeOf}
+use Rattle.calls.specs.Effects.{nothing, waking, outcomeOf}
 use Rattle.calls.specs.Levels.{processAt, processOf, withProcesses, withSemaphores}
-use Rattle.calls.specs.Outcomes.{answeredOf}
+use Rattle.calls.specs.Outcomes.{answeredOf, repliedOf}
 use Rattle.calls.specs.Verdicts.{alsoOf, obeyed, byCaller}
 use Rattle.calls.proofs.Deciding.{own-or-other}
-use Rattle.calls.proofs.Obeying.{outcome-alone, outcome-waking}
+use Rattle.calls.proofs.Obeying.{outcome-alone}
 use Rattle.holding.specs.declared.AfterRequest.{AfterRequest}
 use Rattle.holding.specs.declared.AfterRelease.{AfterRelease}
 use Rattle.holding.specs.Holding.{requestedBy, requestedOf, requestOf, handoverWake, handedTo, releasedBy, releasedOf, releasedAllOf, releaseOf, askedBy, requestedFor, askedAs, askedOf, giving, givenBy, releasedFor, givenAs, givenOf, listedOf}
@@ -72,26 +73,27 @@ module _ (t : Table) (caller number : ℕ) (other : Process) (whole : length (t 
 -- the table with what a release came to
 abbrev pub givenAt : Table → AfterRelease → Outcome
 givenAt t x =
-    answeredOf (withProcesses (withSemaphores t (x .semaphores)) (handedTo (t .processes) (listedOf (x .woken)))) (x .answer)
+    repliedOf (withProcesses (withSemaphores t (x .semaphores)) (handedTo (t .processes) (listedOf (x .woken)))) (x .answer) (x .shown) (x .number)
     (wakesOf (map handoverWake (listedOf (x .woken))))
 
 module _ (t : Table) where
   -- nobody is listed in an empty array
-  given-none : (answer : Answer) (s : Semaphores) → givenAt t (giving answer noneOf s) ≡ outcomeOf (waking answer [] (withSemaphores t s))
-  unfolding listedOf noneOf levelled
-  given-none answer s = outcome-waking _ _ _
+  given-none : (answer : Answer) (s : Semaphores) → givenAt t (giving answer nothing noneOf s) ≡ outcomeOf (waking answer [] (withSemaphores t s))
+  unfolding outcomeOf listedOf noneOf levelled
+  given-none answer s = refl
 
   -- of one number, by a process that may make it
   given-one : (released : Released) (then : Semaphores) → givenAt t (givenBy released (t .semaphores) then) ≡ outcomeOf (releasedBy released t then)
-  unfolding listedOf noneOf levelled withOf packedOf
-  given-one NotHeld then = given-none _ _
+  unfolding outcomeOf listedOf noneOf levelled withOf packedOf
+  given-one Released.Unusable then = given-none _ _
+  given-one (NotHolder level) then = refl
   given-one Freed then = given-none _ _
-  given-one (HandedTo level) then = outcome-waking _ _ _
+  given-one (HandedTo level) then = refl
 
   -- of all numbers
-  given-every : (caller : ℕ) → givenAt t (giving Ok (releaseAllOf (t .semaphores) caller .woken) (releaseAllOf (t .semaphores) caller .semaphores)) ≡ outcomeOf (releasedAllOf t caller)
-  unfolding releaseAllOf releasedAllOf
-  given-every caller = rw all-listed (outcome-waking _ _ _)
+  given-every : (caller : ℕ) → givenAt t (giving Ok nothing (releaseAllOf (t .semaphores) caller .woken) (releaseAllOf (t .semaphores) caller .semaphores)) ≡ outcomeOf (releasedAllOf t caller)
+  unfolding outcomeOf releaseAllOf releasedAllOf
+  given-every caller = rw all-listed
 
   -- by what the checks decide
   given-by : (v : Verdict) (caller number : ℕ)

@@ -28,7 +28,7 @@ use Rattle.process.specs.States.{isOf, nextOf}
 use Rattle.semaphores.specs.declared.queues.Queue.{Queue}
 use Rattle.semaphores.specs.declared.queues.Waiter.{Waiter}
 use Rattle.semaphores.specs.declared.Released.{Released}
-use Rattle.semaphores.specs.declared.Released.the-variants.{NotHeld, Freed, HandedTo}
+use Rattle.semaphores.specs.declared.Released.the-variants.{Unusable, NotHolder, Freed, HandedTo}
 use Rattle.semaphores.specs.declared.Semaphores.{Semaphores}
 use Rattle.semaphores.specs.Queues.{listOf, waitsFor, levelsFor, withoutFirst}
 use Rattle.semaphores.specs.Semaphores.{free, holderOf, waitersOf, waiter, heldBy, holdsOf, requestOf as requestsOf, releaseOf as releasesOf, wokenOf, releasedFrom, wokenFrom}
@@ -434,7 +434,8 @@ module _ (t : Table) (steady : Steady t) where
   -- what a release of one number came to
   by-released : (r : Released) (s : Semaphores) → Fits (t .config) s (handedTo (t .processes) (wokenOf r)) → Keeps (releasedBy r t s)
   unfolding Keeps
-  by-released NotHeld s fits = steady
+  by-released Unusable s fits = steady
+  by-released (NotHolder level) s fits = steady
   by-released Freed s fits = fits-steady s _ fits
   by-released (HandedTo level) s fits = fits-steady s _ fits
 

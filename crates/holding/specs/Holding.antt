@@ -1,4 +1,4 @@
--- Document 01, "Semaphores": REQSEMA and RELSEMA on the whole table.
+-- Document 01, "Semaphores", and document 02, §3: REQSEMA and RELSEMA on the whole table.
 use mathlib.Core.List.{List, [], _∷_, map}
 use Prim.Native.Nat.{ℕ, min}
 use lib.Dec.{eqb}
@@ -14,12 +14,14 @@ use Rattle.semaphores.specs.declared.queues.Levels.{Levels}
 use Rattle.semaphores.specs.declared.Requested.{Requested}
 use Rattle.semaphores.specs.declared.Requested.the-variants.{Unusable, Held, Waits}
 use Rattle.semaphores.specs.declared.Released.{Released}
-use Rattle.semaphores.specs.declared.Released.the-variants.{NotHeld, Freed, HandedTo}
+use Rattle.semaphores.specs.declared.Released.the-variants.{NotHolder, Freed, HandedTo}
+use Rattle.semaphores.specs.declared.Released.the-variants as Released
 use Rattle.semaphores.specs.declared.Semaphores.{Semaphores}
 use Rattle.semaphores.specs.Queues.{noneOf, withOf}
 use Rattle.semaphores.specs.Semaphores.{requestOf as requestsOf, releaseOf as releasesOf, releasedFrom, wokenFrom, releaseAllOf}
 use Rattle.table.specs.declared.answers.Answer.{Answer}
 use Rattle.table.specs.declared.answers.Answer.the-variants.{Ok, ParameterError, NoSemaphoreNumber, Suspended}
+use Rattle.table.specs.declared.answers.Answer.the-variants as Answer
 use Rattle.table.specs.declared.configs.Config.{Config}
 use Rattle.table.specs.declared.wakes.Wake.{Wake}
 use Rattle.table.specs.declared.wakes.Wakes.{Wakes}
@@ -27,7 +29,8 @@ use Rattle.table.specs.declared.wakes.Woken.the-variants.{ByHandover}
 use Rattle.table.specs.declared.Table.{Table}
 use Rattle.table.specs.Wakes.{wakePushOf}
 use Rattle.table.specs.Words.{minusOne}
-use Rattle.calls.specs.Effects.{Effect, refuse, done, suspended, waking}
+use Rattle.calls.specs.Effects.{Carried, nothing, shownBy, numberBy, Effect, refuse, refuseTelling, done, suspended, waking}
+use Rattle.calls.specs.Effects as Effects
 use Rattle.calls.specs.Levels.{processAt, withProcesses, withSemaphores, moving}
 use Rattle.calls.specs.declared.Verdict.{Verdict}
 use Rattle.calls.specs.declared.Verdict.the-variants.{Passed, Refused}
@@ -64,9 +67,11 @@ handedTo processes levels = foldOf handedAt processes levels
 abbrev pub handing : Table → Semaphores → List ℕ → Effect
 handing t semaphores levels = waking Ok (map handoverWake levels) (withProcesses (withSemaphores t semaphores) (handedTo (t .processes) levels))
 
--- "one number, ..; else 15. At a release the first waiter becomes holder and wakes."
+-- "one number, .." and document 02, §3: "15, then 37 NOTHOLDER with the holder's level, or 255 if free". "At a release the first waiter becomes holder and
+-- wakes."
 abbrev pub releasedBy : Released → Table → Semaphores → Effect
-releasedBy NotHeld t semaphores = refuse t NoSemaphoreNumber
+releasedBy Released.Unusable t semaphores = refuse t NoSemaphoreNumber
+releasedBy (NotHolder level) t semaphores = refuseTelling t level
 releasedBy Freed t semaphores = handing t semaphores []
 releasedBy (HandedTo level) t semaphores = handing t semaphores (level ∷ [])
 
@@ -101,23 +106,24 @@ askedAs (Refused answer) p s asked = asking answer p s
 unfoldable pub askedOf : Config → Process → Semaphores → ℕ → ℕ → AfterRequest
 askedOf c p s caller number = askedAs (byCaller c p caller) p s (requestedFor p s caller number)
 
-abbrev pub giving : Answer → Levels → Semaphores → AfterRelease
-giving answer woken s = record { answer = answer; woken = woken; semaphores = s }
+abbrev pub giving : Answer → Carried → Levels → Semaphores → AfterRelease
+giving answer carried woken s = record { answer = answer; shown = shownBy carried; number = numberBy carried; woken = woken; semaphores = s }
 
 abbrev pub givenBy : Released → Semaphores → Semaphores → AfterRelease
-givenBy NotHeld s then = giving NoSemaphoreNumber noneOf s
-givenBy Freed s then = giving Ok noneOf then
-givenBy (HandedTo level) s then = giving Ok (withOf noneOf level) then
+givenBy Released.Unusable s then = giving NoSemaphoreNumber nothing noneOf s
+givenBy (NotHolder level) s then = giving Answer.NotHolder (Effects.number level) noneOf s
+givenBy Freed s then = giving Ok nothing noneOf then
+givenBy (HandedTo level) s then = giving Ok nothing (withOf noneOf level) then
 
 unfoldable pub releasedFor : Semaphores → ℕ → ℕ → AfterRelease
 releasedFor s caller number =
     pick (eqb number minusOne)
-    (giving Ok (releaseAllOf s caller .woken) (releaseAllOf s caller .semaphores))
+    (giving Ok nothing (releaseAllOf s caller .woken) (releaseAllOf s caller .semaphores))
     (givenBy (releasesOf s caller number .released) s (releasesOf s caller number .semaphores))
 
 abbrev pub givenAs : Verdict → Semaphores → AfterRelease → AfterRelease
 givenAs Passed s given = given
-givenAs (Refused answer) s given = giving answer noneOf s
+givenAs (Refused answer) s given = giving answer nothing noneOf s
 
 unfoldable pub givenOf : Config → Process → Semaphores → ℕ → ℕ → AfterRelease
 givenOf c p s caller number = givenAs (byCaller c p caller) s (releasedFor s caller number)

@@ -42,7 +42,7 @@ refused-pool call answer pool refused = by-put (putsOf call)
 pub lent-refusals : (call : Call) (t : Table) (pool : List ℕ) → Plain t (lentOf call t pool)
 unfolding lentOf Plain
 lent-refusals call t pool =
-    by-test (leb (t .config .pool) (length pool)) (λ e. rw e (refusals call t)) (λ e. rw e (λ refused other. refl))
+    by-test (leb (t .config .pool) (length pool)) (λ e. rw e (refusals call t)) (λ e. rw e (λ refused not-3 not-37. refl))
 
 -- two results for one input are equal, for these too
 pub lent-determined : (call : Call) (t : Table) (pool : List ℕ) (r s : Outcome) → r ≡ lentAnswer call t pool → s ≡ lentAnswer call t pool → r ≡ s

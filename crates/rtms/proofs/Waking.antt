@@ -20,7 +20,8 @@ use Rattle.orders.specs.Orders.{acceptOf}
 use Rattle.semaphores.specs.declared.Requested.{Requested}
 use Rattle.semaphores.specs.declared.Requested.the-variants.{Unusable, Held, Waits}
 use Rattle.semaphores.specs.declared.Released.{Released}
-use Rattle.semaphores.specs.declared.Released.the-variants.{NotHeld, Freed, HandedTo}
+use Rattle.semaphores.specs.declared.Released.the-variants.{NotHolder, Freed, HandedTo}
+use Rattle.semaphores.specs.declared.Released.the-variants as Released
 use Rattle.semaphores.specs.declared.Semaphores.{Semaphores}
 use Rattle.semaphores.specs.Semaphores.{requestOf as requestsOf, releaseOf as releasesOf, wokenFrom}
 use Rattle.semaphores.proofs.Waking.{all-woken, woken-once as releases-once}
@@ -143,7 +144,8 @@ fine-request t caller number = fine-requested (requestsOf (t .semaphores) caller
 
 -- each of the ways of a release wakes one at most
 fine-released : (r : Released) (t : Table) (s : Semaphores) → Fine t (releasedBy r t s)
-fine-released NotHeld t s = fine-none t _ _ _
+fine-released Released.Unusable t s = fine-none t _ _ _
+fine-released (NotHolder level) t s = fine-none t _ _ _
 fine-released Freed t s = fine-none t _ _ _
 fine-released (HandedTo level) t s = fine-one t _ _ _ _
 

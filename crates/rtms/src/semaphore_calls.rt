@@ -1,4 +1,4 @@
-// Document 01, "Semaphores": REQSEMA and RELSEMA.
+// Document 01, "Semaphores", and document 02, §3: REQSEMA and RELSEMA.
 ghost use mathlib.Core.Path.{_≡_};
 ghost use Rattle.rtms.specs.Calls.{answerOf, REQSEMA, RELSEMA};
 use table::Outcome;
@@ -17,7 +17,7 @@ pub fn request(table: Table, caller: u8, number: u16) -> Outcome
     }
 }
 
-// RELSEMA: one number, or all with -1.
+// RELSEMA: one number, or all with -1. Answered 37, the result's number is the level that holds the semaphore, or 255.
 pub fn release(table: Table, caller: u8, number: u16) -> Outcome
     ensures { λ r. ⌜ r ≡ answerOf (RELSEMA caller number) table ⌝ }
 {

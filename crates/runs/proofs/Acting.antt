@@ -15,10 +15,11 @@ use Rattle.process.specs.States.{isOf}
 use Rattle.semaphores.specs.declared.Requested.{Requested}
 use Rattle.semaphores.specs.declared.Requested.the-variants.{Unusable, Held, Waits}
 use Rattle.semaphores.specs.declared.Released.{Released}
-use Rattle.semaphores.specs.declared.Released.the-variants.{NotHeld, Freed, HandedTo}
+use Rattle.semaphores.specs.declared.Released.the-variants.{NotHolder, Freed, HandedTo}
+use Rattle.semaphores.specs.declared.Released.the-variants as Released
 use Rattle.semaphores.specs.declared.Semaphores.{Semaphores}
 use Rattle.semaphores.specs.Queues.{listOf, leavingOf}
-use Rattle.semaphores.specs.Semaphores.{requestedNumber, releasedNumber, requestOf as requestsOf, holdsOf, releaseOf as releasesOf, wokenOf, releasedFrom, wokenFrom}
+use Rattle.semaphores.specs.Semaphores.{usableOf, requestedNumber, releasedNumber, requestOf as requestsOf, holdsOf, notHeldOf, releaseOf as releasesOf, wokenOf, releasedFrom, wokenFrom}
 use Rattle.semaphores.specs.Turns.{waitingOf, mayRequest}
 use Rattle.semaphores.proofs.Effects.{by-request}
 use Rattle.table.specs.declared.answers.Answer.the-variants.{NoUser, NotReady}
@@ -63,7 +64,7 @@ module _ (t : Table) (steady : Steady t) where
       (λ e. let none : timesOf level (t .semaphores .queue) ≡ 0 = rw e at times in absurd (never-both stands (times-none level (listOf (t .semaphores .queue)) none)))
 
 -- a call is refused with 10 or with 33, or its caller is configured and READY
-by-caller : (P : Effect → Type 0) (t : Table) (caller : ℕ) (effect : Effect) → P (refuse t NoUser) → P (refuse t NotReady)
+pub by-caller : (P : Effect → Type 0) (t : Table) (caller : ℕ) (effect : Effect) → P (refuse t NoUser) → P (refuse t NotReady)
     → (configuredOf (t .config) caller ≡ true → isOf (processOf t caller .state) Ready ≡ true → P effect) → P (called t caller [] effect)
 unfolding alsoOf obeyed
 by-caller P t caller effect unknown not-ready may =
@@ -106,12 +107,13 @@ module _ (t : Table) (caller number : ℕ) where
       (λ usable not-free not-own. refl)
 
   -- what a release answers
-  gave-answer : numberOf (releasedOf t caller number .answer) ≡ releasedNumber (releasesOf (t .semaphores) caller number .released)
+  pub gave-answer : numberOf (releasedOf t caller number .answer) ≡ releasedNumber (releasesOf (t .semaphores) caller number .released)
   unfolding releasedOf
   gave-answer = by-ways (releasesOf (t .semaphores) caller number .released) (releasesOf (t .semaphores) caller number .semaphores)
     where
       by-ways : (r : Released) (s : Semaphores) → numberOf (releasedBy r t s .answer) ≡ releasedNumber r
-      by-ways NotHeld s = refl
+      by-ways Released.Unusable s = refl
+      by-ways (NotHolder level) s = refl
       by-ways Freed s = refl
       by-ways (HandedTo level) s = refl
 
@@ -121,17 +123,18 @@ module _ (t : Table) (caller number : ℕ) where
   gave-handed = by-ways (releasesOf (t .semaphores) caller number .released) (releasesOf (t .semaphores) caller number .semaphores)
     where
       by-ways : (r : Released) (s : Semaphores) → handedLevels (releasedBy r t s .wakes) ≡ wokenOf r
-      by-ways NotHeld s = handed-none
+      by-ways Released.Unusable s = handed-none
+      by-ways (NotHolder level) s = handed-none
       by-ways Freed s = handed-none
       by-ways (HandedTo level) s = handed-all (level ∷ [])
 
   -- and the semaphores that it leaves
   gave-semaphores : releasedOf t caller number .table .semaphores ≡ releasesOf (t .semaphores) caller number .semaphores
-  unfolding releasedOf releasesOf
+  unfolding releasedOf releasesOf notHeldOf
   gave-semaphores =
       by-test (holdsOf (t .semaphores) caller number)
       (λ holds. rw holds (by-test (leavingOf (t .semaphores .queue) number .found) (λ e. rw e) (λ e. rw e)))
-      (λ fails. rw fails)
+      (λ fails. rw fails (by-test (usableOf number) (λ e. rw e) (λ e. rw e)))
 
 -- ---- what a step is to semaphores
 

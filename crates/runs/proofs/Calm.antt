@@ -16,7 +16,8 @@ use Rattle.process.specs.Process.{takenOf}
 use Rattle.semaphores.specs.declared.Requested.{Requested}
 use Rattle.semaphores.specs.declared.Requested.the-variants.{Unusable, Held, Waits}
 use Rattle.semaphores.specs.declared.Released.{Released}
-use Rattle.semaphores.specs.declared.Released.the-variants.{NotHeld, Freed, HandedTo}
+use Rattle.semaphores.specs.declared.Released.the-variants.{NotHolder, Freed, HandedTo}
+use Rattle.semaphores.specs.declared.Released.the-variants as Released
 use Rattle.semaphores.specs.declared.Semaphores.{Semaphores}
 use Rattle.semaphores.specs.Semaphores.{requestOf as requestsOf, releaseOf as releasesOf}
 use Rattle.table.specs.declared.answers.Answer.the-variants.{ReceiverBufferOverflow, Ok, NoPoolInit, PoolOverflow, DataLengthFault, PoolLengthFault}
@@ -97,7 +98,8 @@ module _ (t : Table) where
 
   -- a release, each of its ways
   mild-released : (r : Released) (s : Semaphores) → Mild t (releasedBy r t s)
-  mild-released NotHeld s = mild _ refl refl
+  mild-released Released.Unusable s = mild _ refl refl
+  mild-released (NotHolder level) s = mild _ refl refl
   mild-released Freed s = mild _ refl refl
   mild-released (HandedTo level) s = mild _ refl refl
 

@@ -8,6 +8,7 @@ pub mod Acting
 pub mod Seeing
 pub mod Asking
 pub mod Sights
+pub mod Telling
 pub mod Turns
 pub mod Ordering
 pub mod Following

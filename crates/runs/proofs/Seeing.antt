@@ -12,7 +12,7 @@ use Rattle.common.specs.Stands.{standsIn}
 use Rattle.common.proofs.Cases.{by-test, both}
 use Rattle.semaphores.specs.declared.Semaphores.{Semaphores}
 use Rattle.semaphores.specs.Queues.{leavingOf}
-use Rattle.semaphores.specs.Semaphores.{usableOf, holderOf, waitersOf, requestedNumber, releasedNumber, requestOf, holdsOf, releaseOf, wokenOf, releasedFrom, wokenFrom}
+use Rattle.semaphores.specs.Semaphores.{usableOf, holderOf, waitersOf, requestedNumber, releasedNumber, requestOf, holdsOf, notHeldOf, releaseOf, wokenOf, releasedFrom, wokenFrom}
 use Rattle.semaphores.specs.Turns.{Step, releases as releaseStep, releasesAll, mayRequest, stepOf, afterOf, releasesNumber, releasesOf, Orderly}
 use Rattle.semaphores.proofs.Effects.{Turn, turn-same, release-not-held}
 use Rattle.semaphores.proofs.Turns.{release-all}
@@ -77,13 +77,13 @@ quiet {number} {s = s} none same no-request not-given not-seen = record {
 -- ---- a release of one number
 
 module _ (s : Semaphores) (caller given : ℕ) where
-  -- what it answers where the caller does not hold the number
-  not-held-number : holdsOf s caller given ≡ false → releasedNumber (releaseOf s caller given .released) ≡ 15
-  unfolding releaseOf
-  not-held-number fails = rw fails
+  -- where the caller does not hold the number it is not answered 0, but 15 or 37
+  not-held-number : holdsOf s caller given ≡ false → eqb (releasedNumber (releaseOf s caller given .released)) 0 ≡ false
+  unfolding releaseOf notHeldOf
+  not-held-number fails = rw fails (by-test (usableOf given) (λ e. rw e) (λ e. rw e))
 
-  -- and where it does
-  held-number : holdsOf s caller given ≡ true → releasedNumber (releaseOf s caller given .released) ≡ 0
+  -- where it does, it is
+  pub held-number : holdsOf s caller given ≡ true → releasedNumber (releaseOf s caller given .released) ≡ 0
   unfolding releaseOf
   held-number holds = rw holds (by-test (leavingOf (s .queue) given .found) (λ e. rw e) (λ e. rw e))
 
@@ -209,11 +209,11 @@ module _ (number : ℕ) (usable : usableOf number ≡ true) (s : Semaphores) (or
       by-test (holdsOf s caller given)
       (λ holds. rw (act-is, answer-is ∙ held-number s caller given holds, handed-is ∙ release-wakes s caller given holds, then-is)
       (given-turned number s orderly caller (requester-level s caller may) given single holds))
-      (λ fails. let answer-15 : answer ≡ 15 = answer-is ∙ not-held-number s caller given fails in
+      (λ fails. let not-0 : eqb answer 0 ≡ false = rw answer-is (not-held-number s caller given fails) in
       quiet (handed-is ∙ release-wakes-none s caller given fails) (then-is ∙ release-not-held s caller given fails)
       (λ level. rw act-is (refl, refl))
-      (λ level. rw answer-15 (and-false (givesBack number level act)))
-      (λ sight. rw answer-15 (refused-seen number act 15 sight refl)))
+      (λ level. rw not-0 (and-false (givesBack number level act)))
+      (λ sight. refused-seen number act answer sight not-0))
 
   -- what a deed is to a number
   pub way-of : {act : Act} {answer : ℕ} {handed : List ℕ} {then : Semaphores} → Deed act answer handed s then → Way number act answer handed s then

@@ -19,12 +19,13 @@ use Rattle.process.specs.Marks.{tellOf}
 use Rattle.process.specs.Messages.{zeros, emptyOf as emptyBuffer, putOf}
 use Rattle.process.specs.Process.{movedOf, handedOf, storedOf, deliverOf}
 use Rattle.semaphores.specs.Queues.{listOf, queued, emptyOf as emptyQueue, pushOf, levelsFor, withoutFirst, passedOf, leavingOf}
-use Rattle.semaphores.specs.Semaphores.{usableOf, freshOf as freshSemaphores, holderOf, waitersOf, requestOf as requestsOf, holdsOf, releaseOf as releasesOf}
+use Rattle.semaphores.specs.Semaphores.{usableOf, freshOf as freshSemaphores, holderOf, waitersOf, requestOf as requestsOf, holdsOf, notHeldOf, releaseOf as releasesOf}
 use Rattle.orders.specs.Advance.{dueAt, dueOf, dueCountOf, onwardOf, leftsOf, advanceOf}
 use Rattle.orders.specs.Cancel.{isFrom, matchesOf, howManyOf, withoutOf, removedOf, cancelOf}
 use Rattle.orders.specs.Moments.{intervalOf, delayOf}
 use Rattle.orders.specs.Orders.{noOrder, standingOf, ordersOf, noneOf, pushOf as ordersPush, acceptOf}
 use Rattle.orders.specs.Timer.{place, CarriedOut}
+use Rattle.table.specs.declared.answers.Answer.the-variants.{NoSemaphoreNumber}
 use Rattle.table.specs.declared.configs.Config.{Config}
 use Rattle.table.specs.declared.Table.{Table}
 use Rattle.table.specs.Answers.{numberOf}
@@ -32,6 +33,7 @@ use Rattle.table.specs.Configuration.{configuredOf, inputsOf, goodOf, receiverO
 use Rattle.table.specs.Sound.{timesOf, levelSound, levelsSound, orderSound, ordersSound, holderSound, holdersSound, waiterSound, queueSound, onCard, lengthsSound, poolSound, soundOf}
 use Rattle.table.specs.Table.{freshOf}
 use Rattle.table.specs.Words.{minusOne}
+use Rattle.calls.specs.Effects.{refuse, refuseTelling}
 use Rattle.calls.specs.Levels.{processAt}
 use Rattle.calls.specs.Verdicts.{alsoOf, obeyed}
 use Rattle.starting.specs.Starting.{startOf}
@@ -43,7 +45,7 @@ use Rattle.holding.specs.Holding.{requestedOf, requestOf, releasedOf, releaseOf
 use Rattle.rtms.specs.Calls.{Call, START, SCHEDULE, CANCELSCHEDULE, SHUTDOWN, STARTSCHEDULER, REQSEMA, RELSEMA, TICK, TICKS, guardedOf, doneBy}
 use Rattle.runs.specs.Runs.{leaves, afterOf, runOf, seenAs, seenOf}
 use Rattle.runs.specs.Schedules.{deedOf, orderBy, Accepted, acceptedAt, firstPlace, Running, isFor, Lets, Undisturbed, orderSteps, timedOf, followedOn, ticksBy, ticksIn}
-use Rattle.runs.specs.Sight.{actOf, handedLevels, Sight, sightAfter, sightOf, isRelease, releasesSeen}
+use Rattle.runs.specs.Sight.{actOf, handedLevels, Sight, sightAfter, sightOf, isRelease, releasesSeen, sightAt}
 use Rattle.runs.specs.Turns.{BeginsToWait, askedAt, sightThen}
 
 -- levels 2, 3 and 4, scheduler 11, one message place, two order places, card 8 and nobody privileged, from midnight on
@@ -101,6 +103,24 @@ shows-turns = record {
   two = refl;
   turn = refl;
 }
+
+-- ---- a release by one who does not hold the semaphore
+
+-- what this run shows of the promise about what 37 tells
+pub record ShowsTold : Type 0 where
+  -- level 3, which waits, may not call; level 4 may, and is told that level 2 holds semaphore 7
+  pub waiting : numberOf (doneBy (RELSEMA 3 7) (runOf plant held) .answer) ≡ 33
+  pub another : doneBy (RELSEMA 4 7) (runOf plant held) ≡ refuseTelling (runOf plant held) 2
+  -- who is seen to hold it
+  pub holds : sightAt plant held 7 .holds 2 ≡ true
+  -- 255 for a semaphore that nobody holds; and 15 for an unusable number
+  pub nobody : doneBy (RELSEMA 4 8) (runOf plant held) ≡ refuseTelling (runOf plant held) 255
+  pub unusable : doneBy (RELSEMA 4 32) (runOf plant held) ≡ refuse (runOf plant held) NoSemaphoreNumber
+
+-- it does
+pub shows-told : ShowsTold
+unfolding everyBelow keepOf packedOf standsIn bitOf wordOf hasOf setOf noInputs exceptOf inputRun risingOf membersOf countOf nextOf emptyBuffer movedOf listOf queued emptyQueue usableOf freshSemaphores standingOf ordersOf noneOf configuredOf inputsOf goodOf timesOf levelSound levelsSound orderSound ordersSound holderSound holdersSound waiterSound queueSound onCard lengthsSound poolSound soundOf freshPool freshOf processAt alsoOf obeyed startOf guardedOf afterOf pushOf levelsFor withoutFirst passedOf leavingOf holderOf waitersOf requestsOf holdsOf notHeldOf releasesOf requestedOf requestOf releasedOf releaseOf seenOf actOf handedLevels sightAfter sightOf
+shows-told = record { waiting = refl; another = refl; holds = refl; nobody = refl; unusable = refl }
 
 -- ---- a timer order that is accepted and left to the clock
 

@@ -1,23 +1,26 @@
 -- What one knows of a semaphore from outside, from the calls, their answers and the wakes alone: who holds it and who waits for it. "There are
--- never two holders."
+-- never two holders", and who is told to hold it is the holder.
 use mathlib.Core.Path.{_≡_}
 use mathlib.Core.Bool.{Bool, true, false, not, _&&_, _||_}
 use mathlib.Core.List.{List, [], _∷_, map}
+use mathlib.Core.Logic.{_⊎_}
 use Prim.Native.Nat.{ℕ, _+_, _<_, _≤_}
 use lib.Dec.{eqb}
 use Rattle.common.specs.Choice.{pick}
 use Rattle.common.specs.Keep.{keepOf}
 use Rattle.common.specs.Stands.{standsIn}
 use Rattle.semaphores.specs.declared.Semaphores.{Semaphores}
-use Rattle.semaphores.specs.Semaphores.{usableOf, holderOf, waitersOf}
+use Rattle.semaphores.specs.Semaphores.{usableOf, free, holderOf, waitersOf}
 use Rattle.table.specs.declared.configs.Config.{Config}
 use Rattle.table.specs.declared.wakes.Wake.{Wake}
 use Rattle.table.specs.declared.wakes.Woken.{Woken}
 use Rattle.table.specs.declared.wakes.Woken.the-variants.{ByMessage, ByEvent, ByHandover}
+use Rattle.table.specs.Answers.{numberOf}
 use Rattle.table.specs.Configuration.{goodOf}
 use Rattle.table.specs.Table.{freshOf}
 use Rattle.table.specs.Words.{minusOne}
-use Rattle.rtms.specs.Calls.{Call, START, SETPRIORITY, SEND, RECEIVE, AWAITMESSAGE, CLEARMESSAGE, SCHEDULE, CANCELSCHEDULE, SHUTDOWN, STARTSCHEDULER, READTIME, ENABLE, DISABLE, AWAITINTERRUPT, RESETINT, EVENT, REQSEMA, RELSEMA, INITPOOL, POOLCHECK, GETPOOL, PUTPOOL, TICK, TICKS}
+use Rattle.calls.specs.Effects as Effects
+use Rattle.rtms.specs.Calls.{Call, START, SETPRIORITY, SEND, RECEIVE, AWAITMESSAGE, CLEARMESSAGE, SCHEDULE, CANCELSCHEDULE, SHUTDOWN, STARTSCHEDULER, READTIME, ENABLE, DISABLE, AWAITINTERRUPT, RESETINT, EVENT, REQSEMA, RELSEMA, INITPOOL, POOLCHECK, GETPOOL, PUTPOOL, TICK, TICKS, doneBy}
 use Rattle.runs.specs.Runs.{runOf, Seen, seenOf}
 
 -- what a call has to do with semaphores: the caller, and the number
@@ -142,3 +145,35 @@ NeverTwoHolders = (c : Config) → goodOf c ≡ true → (steps : List Call) (nu
     → sightOf number (seenOf steps (freshOf c)) unseen .holds level ≡ true
     → sightOf number (seenOf steps (freshOf c)) unseen .holds other ≡ true
     → level ≡ other
+
+-- ---- document 02, §3: "A usable one that the caller doesn't hold gets an answer that tells the holder's level; .. or 255 if free"
+
+-- a semaphore as it is seen after steps from a fresh table
+abbrev pub sightAt : Config → List Call → ℕ → Sight
+sightAt c steps number = sightOf number (seenOf steps (freshOf c)) unseen
+
+-- what a call that is answered 37 after such steps tells
+pub record TellsAsSeen (c : Config) (steps : List Call) (call : Call) : Type 0 where
+  -- it is a RELSEMA of a usable number
+  pub caller : ℕ
+  pub number : ℕ
+  pub is-release : call ≡ RELSEMA caller number
+  pub usable : usableOf number ≡ true
+  -- which its caller is not seen to hold
+  pub not-its-own : sightAt c steps number .holds caller ≡ false
+  -- the answer carries a level
+  pub told : ℕ
+  pub carries : doneBy call (runOf c steps) .carried ≡ Effects.number told
+  -- and that level is seen to hold the number, or 255 is told and nobody is seen to
+  pub as-seen : (sightAt c steps number .holds told ≡ true) ⊎ ((told ≡ free) × ((level : ℕ) → sightAt c steps number .holds level ≡ false))
+
+-- what 37 tells is the holder as it is seen from outside
+abbrev pub ToldAsSeen : Type 0
+ToldAsSeen = (c : Config) → goodOf c ≡ true → (steps : List Call) (call : Call) → numberOf (doneBy call (runOf c steps) .answer) ≡ 37 → TellsAsSeen c steps call
+
+-- and a RELSEMA of a usable number by a process that may call is answered 0 where that process is seen to hold the number, and 37 where it is not
+abbrev pub ReleasedAsSeen : Type 0
+ReleasedAsSeen = (c : Config) → goodOf c ≡ true → (steps : List Call) (caller number : ℕ) → usableOf number ≡ true
+    → (numberOf (doneBy (RELSEMA caller number) (runOf c steps) .answer) ≡ 10 → ⊥)
+    → (numberOf (doneBy (RELSEMA caller number) (runOf c steps) .answer) ≡ 33 → ⊥)
+    → numberOf (doneBy (RELSEMA caller number) (runOf c steps) .answer) ≡ pick (sightAt c steps number .holds caller) 0 37

@@ -7,14 +7,14 @@ use Rattle.common.specs.Fold.{foldOf}
 use Rattle.semaphores.specs.declared.Semaphores.{Semaphores}
 use Rattle.semaphores.specs.declared.ReleaseAll.{ReleaseAll}
 use Rattle.semaphores.specs.Queues.{withOf, noneOf}
-use Rattle.semaphores.specs.Semaphores.{usableOf, holderOf, holdsOf, wokenOf, releaseOf, alsoOf, releasedFrom, wokenFrom, releaseAllOf}
+use Rattle.semaphores.specs.Semaphores.{usableOf, holderOf, holdsOf, wokenOf, notHeldOf, releaseOf, alsoOf, releasedFrom, wokenFrom, releaseAllOf}
 use Rattle.common.proofs.Cases.{by-test}
 use Rattle.common.proofs.Fold.{fold-append}
 use Rattle.semaphores.proofs.Waiting.{with-list}
 
 -- a number that the level does not hold makes no difference
 pub also-passed : (all : ReleaseAll) (level number : ℕ) → eqb (holderOf (all .semaphores) number) level ≡ false → alsoOf all level number ≡ all
-unfolding alsoOf releaseOf holdsOf
+unfolding alsoOf releaseOf notHeldOf holdsOf
 also-passed all level number other = by-test (usableOf number) (λ usable. rw (usable, other)) (λ not-usable. rw not-usable)
 
 -- where a release of all ends that has so many numbers left, from a first one on

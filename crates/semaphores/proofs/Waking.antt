@@ -14,10 +14,10 @@ use Rattle.common.proofs.Parts.{Part, part-all, part-map, part-length}
 use Rattle.semaphores.specs.declared.queues.Waiter.{Waiter}
 use Rattle.semaphores.specs.declared.queues.Queue.{Queue}
 use Rattle.semaphores.specs.declared.Released.{Released}
-use Rattle.semaphores.specs.declared.Released.the-variants.{NotHeld, Freed, HandedTo}
+use Rattle.semaphores.specs.declared.Released.the-variants.{Unusable, NotHolder, Freed, HandedTo}
 use Rattle.semaphores.specs.declared.Semaphores.{Semaphores}
 use Rattle.semaphores.specs.Queues.{listOf, queued, waitsFor, levelsFor, withoutFirst, leavingAs, leavingOf}
-use Rattle.semaphores.specs.Semaphores.{waitersOf, handedOn, holdsOf, releaseOf, wokenOf, wokenFrom}
+use Rattle.semaphores.specs.Semaphores.{usableOf, waitersOf, handedOn, holdsOf, notHeldOf, releaseOf, wokenOf, wokenFrom}
 use Rattle.semaphores.specs.Turns.{waitingOf}
 use Rattle.semaphores.proofs.Effects.{release-not-held}
 use Rattle.semaphores.proofs.Waiting.{list-short, list-queued, without-none, part-without, levels-part}
@@ -32,10 +32,14 @@ pub release-wakes : (s : Semaphores) (level number : ℕ) → holdsOf s level nu
 unfolding releaseOf leavingOf waitersOf
 release-wakes s level number holds = rw holds (handed-wakes s number (levelsFor number (listOf (s .queue))) _)
 
--- who does not hold it wakes nobody
+-- who does not hold it wakes nobody, whyever it is refused
+pub not-held-wakes : (s : Semaphores) (number : ℕ) → wokenOf (notHeldOf s number) ≡ []
+unfolding notHeldOf
+not-held-wakes s number = by-test (usableOf number) (λ e. rw e) (λ e. rw e)
+
 pub release-wakes-none : (s : Semaphores) (level number : ℕ) → holdsOf s level number ≡ false → wokenOf (releaseOf s level number .released) ≡ []
 unfolding releaseOf
-release-wakes-none s level number holds = rw holds
+release-wakes-none s level number holds = rw holds (not-held-wakes s number)
 
 -- who wakes has left the queue
 first-leaves : (number : ℕ) (l : List Waiter) → length (take 1 (levelsFor number l)) + length (withoutFirst number l) ≤ length l
@@ -63,7 +67,7 @@ unfolding releaseOf leavingOf
 release-leaves s level number =
     by-test (holdsOf s level number)
     (λ e. rw e (handed-leaves s number (levelsFor number (listOf (s .queue))) (first-leaves number (listOf (s .queue)))))
-    (λ e. rw e (omega arith))
+    (λ e. rw (e, not-held-wakes s number) (omega arith))
 
 -- and so do many
 releases-leave : (many number level : ℕ) (s : Semaphores) → length (wokenFrom many number level s) ≤ length (listOf (s .queue))
@@ -154,13 +158,15 @@ module _ (s : Semaphores) (by number : ℕ) where
 -- nobody wakes twice in one release
 pub release-once : (r : Released) → Once (wokenOf r)
 unfolding Once standsIn
-release-once NotHeld = tt
+release-once Unusable = tt
+release-once (NotHolder level) = tt
 release-once Freed = tt
 release-once (HandedTo level) = (refl, tt)
 
 -- which wakes one at most
 pub release-few : (r : Released) → length (wokenOf r) ≤ 1
-release-few NotHeld = omega arith
+release-few Unusable = omega arith
+release-few (NotHolder level) = omega arith
 release-few Freed = omega arith
 release-few (HandedTo level) = omega arith
 

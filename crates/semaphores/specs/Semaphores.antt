@@ -1,4 +1,4 @@
--- Document 01, "Semaphores".
+-- Document 01, "Semaphores", and document 02, §2 and §3.
 use mathlib.Core.Bool.{Bool, true, false, _&&_, _||_}
 use mathlib.Core.List.{List, [], _∷_, _++_}
 use Prim.Native.Nat.{ℕ, zero, suc}
@@ -15,7 +15,8 @@ use Rattle.semaphores.specs.declared.Requested.{Requested}
 use Rattle.semaphores.specs.declared.Requested.the-variants.{Unusable, Held, Waits}
 use Rattle.semaphores.specs.declared.Release.{Release}
 use Rattle.semaphores.specs.declared.Released.{Released}
-use Rattle.semaphores.specs.declared.Released.the-variants.{NotHeld, Freed, HandedTo}
+use Rattle.semaphores.specs.declared.Released.the-variants.{NotHolder, Freed, HandedTo}
+use Rattle.semaphores.specs.declared.Released.the-variants as Released
 use Rattle.semaphores.specs.declared.ReleaseAll.{ReleaseAll}
 use Rattle.semaphores.specs.Queues.{emptyOf, pushOf, leavingOf, levelsFor, listOf, levelled, withOf}
 
@@ -29,9 +30,10 @@ requestedNumber Unusable = 6
 requestedNumber Held = 0
 requestedNumber Waits = 32
 
--- 15 NOSEMANUMBER, 0 OK
+-- 15 NOSEMANUMBER, 37 NOTHOLDER, 0 OK
 abbrev pub releasedNumber : Released → ℕ
-releasedNumber NotHeld = 15
+releasedNumber Released.Unusable = 15
+releasedNumber (NotHolder level) = 37
 releasedNumber Freed = 0
 releasedNumber (HandedTo level) = 0
 
@@ -78,16 +80,22 @@ handedOn s number leaving =
 unfoldable pub holdsOf : Semaphores → ℕ → ℕ → Bool
 holdsOf s level number = pick (usableOf number) (eqb (holderOf s number) level) false
 
--- "RELSEMA: one number, ..; else 15"
+-- document 02, §3: "NOSEMANUMBER stays for unusable numbers. .. Refusals: 15, then 37 NOTHOLDER with the holder's level, or 255 if free." (`holderOf` is 255
+-- where the semaphore is free.)
+unfoldable pub notHeldOf : Semaphores → ℕ → Released
+notHeldOf s number = pick (usableOf number) (NotHolder (holderOf s number)) Released.Unusable
+
+-- "RELSEMA: one number, .."; who does not hold it changes nothing
 unfoldable pub releaseOf : Semaphores → ℕ → ℕ → Release
 releaseOf s level number =
     pick (holdsOf s level number)
     (handedOn s number (leavingOf (s .queue) number))
-    (record { released = NotHeld; semaphores = s })
+    (record { released = notHeldOf s number; semaphores = s })
 
 -- the level that a release wakes
 abbrev pub wokenOf : Released → List ℕ
-wokenOf NotHeld = []
+wokenOf Released.Unusable = []
+wokenOf (NotHolder level) = []
 wokenOf Freed = []
 wokenOf (HandedTo level) = level ∷ []
 

@@ -1,6 +1,6 @@
 // The semaphores: who holds each, and who waits for one, in order of arrival.
 ghost use mathlib.Core.Path.{_≡_};
-ghost use Rattle.semaphores.specs.Semaphores.{requestedNumber, releasedNumber, usableOf, freshOf, requestOf, holdsOf, releaseOf, alsoOf, releaseAllOf};
+ghost use Rattle.semaphores.specs.Semaphores.{requestedNumber, releasedNumber, usableOf, freshOf, requestOf, holdsOf, notHeldOf, releaseOf, alsoOf, releaseAllOf};
 
 pub mod queues;
 
@@ -30,8 +30,9 @@ pub struct Request {
 }
 
 pub enum Released {
-    // The number is not usable, or the caller does not hold it.
-    NotHeld,
+    Unusable,
+    // The caller does not hold it: the level that does, or FREE.
+    NotHolder(u8),
     Freed,
     // The first that waited holds it now.
     HandedTo(u8),
@@ -67,7 +68,8 @@ impl Released {
         ensures { λ r. ⌜ r ≡ releasedNumber self ⌝ }
     {
         match self {
-            Released::NotHeld => 15,
+            Released::Unusable => 15,
+            Released::NotHolder(_) => 37,
             Released::Freed => 0,
             Released::HandedTo(_) => 0,
         }
@@ -142,6 +144,18 @@ impl Semaphores {
         }
     }
 
+    // Why a level that does not hold a number cannot release it: an unusable number goes first, then who holds it.
+    fn not_held(self, number: u16) -> Released
+        ensures { λ r. ⌜ r ≡ notHeldOf self number ⌝ }
+    {
+        if usable(number) {
+            let holders = self.holders;
+            Released::NotHolder(holders[number as usize])
+        } else {
+            Released::Unusable
+        }
+    }
+
     // RELSEMA of one number: the first that waits for it holds it now, or it is free.
     pub fn release(self, level: u8, number: u16) -> Release
         ensures { λ r. ⌜ r ≡ releaseOf self level number ⌝ }
@@ -166,8 +180,9 @@ impl Semaphores {
                 semaphores: Semaphores { holders, queue },
             };
         }
+        let released = self.not_held(number);
         Release {
-            released: Released::NotHeld,
+            released,
             semaphores: self,
         }
     }
@@ -208,7 +223,8 @@ impl ReleaseAll {
                 ReleaseAll { woken, semaphores }
             }
             Released::Freed => ReleaseAll { woken, semaphores },
-            Released::NotHeld => ReleaseAll { woken, semaphores },
+            Released::Unusable => ReleaseAll { woken, semaphores },
+            Released::NotHolder(_) => ReleaseAll { woken, semaphores },
         }
     }
 }

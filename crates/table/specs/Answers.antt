@@ -1,9 +1,9 @@
--- Document 01, "Answer numbers", and document 02, §1: the number of each answer, under the name that the document gives it.
+-- Document 01, "Answer numbers", and document 02, §1 and §3: the number of each answer, under the name that the document gives it.
 use mathlib.Core.Bool.{Bool, not, _&&_}
 use Prim.Native.Nat.{ℕ}
 use lib.Dec.{eqb}
 use Rattle.table.specs.declared.answers.Answer.{Answer}
-use Rattle.table.specs.declared.answers.Answer.the-variants.{Ok, ReceiverUnknown, ReceiverNotReady, ReceiverBufferOverflow, BufferEmpty, BufferOverflow, ParameterError, NoTask, NotFound, CommandPrivileged, NoUser, IllegalInput, TaskListOverflow, TimeCondition, NoSemaphoreNumber, NoPoolInit, PoolOverflow, DataLengthFault, PoolLengthFault, Suspended, NotReady, Started, BadConfig, BadLog}
+use Rattle.table.specs.declared.answers.Answer.the-variants.{Ok, ReceiverUnknown, ReceiverNotReady, ReceiverBufferOverflow, BufferEmpty, BufferOverflow, ParameterError, NoTask, NotFound, CommandPrivileged, NoUser, IllegalInput, TaskListOverflow, TimeCondition, NoSemaphoreNumber, NoPoolInit, PoolOverflow, DataLengthFault, PoolLengthFault, Suspended, NotReady, Started, BadConfig, BadLog, NotHolder}
 
 abbrev pub numberOf : Answer → ℕ
 -- OK
@@ -54,6 +54,8 @@ numberOf Started = 34
 numberOf BadConfig = 35
 -- BADLOG
 numberOf BadLog = 36
+-- NOTHOLDER
+numberOf NotHolder = 37
 
 -- "0, 5, 14 and 32 are no refusals."
 unfoldable pub refusalOf : Answer → Bool

@@ -30,7 +30,7 @@ freshOf c = record {
   pool = freshPool;
 }
 
--- "A refusal carries no message (sixteen zeros), no inputs and .. no wakes", and leaves the table as it is
+-- "A refusal carries no message (sixteen zeros), no inputs and .. no wakes", and leaves the table as it is. (Document 02, §3, has one that carries a number.)
 unfoldable pub refusedOf : Table → Answer → Outcome
 refusedOf t answer = record {
   answer = answer;

@@ -1,4 +1,4 @@
-// What a call is answered with: document 01's "Answer numbers", and those of document 02, §1.
+// What a call is answered with: document 01's "Answer numbers", and those of document 02, §1 and §3.
 ghost use mathlib.Core.Path.{_≡_};
 ghost use Rattle.table.specs.Answers.{numberOf, refusalOf};
 
@@ -27,6 +27,7 @@ pub enum Answer {
     Started,
     BadConfig,
     BadLog,
+    NotHolder,
 }
 
 impl Answer {
@@ -59,6 +60,7 @@ impl Answer {
             Answer::Started => 34,
             Answer::BadConfig => 35,
             Answer::BadLog => 36,
+            Answer::NotHolder => 37,
         }
     }
 

@@ -57,7 +57,8 @@ pub struct Outcome {
     pub message: Message,
     // Empty where no inputs are shown.
     pub inputs: InputSet,
-    // The milliseconds of READTIME, how many orders were carried out, or how many bytes GETPOOL answers with; else 0.
+    // The milliseconds of READTIME, how many orders were carried out, how many bytes GETPOOL answers with, or who holds what RELSEMA could not
+    // release; else 0.
     pub number: u64,
     pub wakes: Wakes,
     pub table: Table,
@@ -119,7 +120,7 @@ impl Table {
         }
     }
 
-    // The one way to refuse: the number, and nothing else; the table as it was.
+    // The number and nothing else, and the table as it was: every refusal but a full buffer's 3, which may wake, and 37, which tells a level.
     pub fn refused(self, answer: Answer) -> Outcome
         ensures { λ r. ⌜ r ≡ refusedOf self answer ⌝ }
     {

@@ -51,6 +51,8 @@ pub enum Answer {
     BadConfiguration,
     /// BADLOG
     BadLog,
+    /// NOTHOLDER
+    NotHolder,
 }
 
 impl Answer {
@@ -80,6 +82,7 @@ impl Answer {
             Answer::Started => 34,
             Answer::BadConfiguration => 35,
             Answer::BadLog => 36,
+            Answer::NotHolder => 37,
         }
     }
 

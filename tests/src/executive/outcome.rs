@@ -16,6 +16,8 @@ pub enum Addition {
     OrdersCarriedOut(u64),
     /// A part of the pool, as long as the caller asked for; it may have no byte.
     Data(Vec<u8>),
+    /// The level that holds a semaphore, if any does.
+    Holder(Option<u8>),
 }
 
 /// A process that waited is READY again.

@@ -44,14 +44,17 @@ impl Executive {
         }
     }
 
-    /// RELSEMA.
+    /// RELSEMA. Who does not hold the semaphore is told who does.
     pub(super) fn release(&mut self, caller: u8, number: i16) -> Result<Outcome, Answer> {
-        let held: Vec<u8> = self.held_by(caller);
         let to_release = if number == ALL_HELD {
-            held
+            self.held_by(caller)
         } else {
-            let number = usable(number).filter(|number| held.contains(number));
-            vec![number.ok_or(Answer::NoSemaphore)?]
+            let number = usable(number).ok_or(Answer::NoSemaphore)?;
+            let holder = self.semaphores.get(&number).map(|semaphore| semaphore.holder);
+            if holder != Some(caller) {
+                return Ok(Outcome::with(Answer::NotHolder, Addition::Holder(holder)));
+            }
+            vec![number]
         };
         let wakes = to_release.into_iter().filter_map(|number| self.hand_over(number)).collect();
         Ok(Outcome::waking(Answer::Done, wakes))

@@ -39,14 +39,17 @@ impl Generator {
         }
     }
 
-    /// Often by a holder, and of a semaphore for which others wait.
+    /// Often by a holder, and of a semaphore for which others wait; at times of one that another holds.
     pub(super) fn release(&mut self) -> Record {
         let holders: Vec<u8> =
             self.executive.semaphores().values().map(|semaphore| semaphore.holder).collect();
-        let caller = self.caller_of(&holders, 80);
+        let caller = self.caller_of(&holders, 60);
         let held = self.executive.held_by(caller);
+        let taken: Vec<u8> = self.executive.semaphores().keys().copied().collect();
+        let others: Vec<u8> = taken.into_iter().filter(|number| !held.contains(number)).collect();
         let first_parameter = match self.random.below(10) {
-            0..=5 if !held.is_empty() => self.random.pick(&held).map_or(-1, i16::from),
+            0..=4 if !held.is_empty() => self.random.pick(&held).map_or(-1, i16::from),
+            0..=5 if !others.is_empty() => self.random.pick(&others).map_or(-1, i16::from),
             6 | 7 => -1,
             _ => self.semaphore(),
         };

@@ -27,7 +27,7 @@ const ALLOWED: [(u8, &[u8]); 24] = [
     (11, &[0, 10, 11, 33]),
     (12, &[0, 6, 10, 33]),
     (13, &[0, 6, 10, 32, 33]),
-    (14, &[0, 10, 15, 33]),
+    (14, &[0, 10, 15, 33, 37]),
     (15, &[0, 11]),
     (16, &[0, 6, 10, 34]),
     (17, &[0]),
@@ -123,12 +123,37 @@ fn random_logs_often_ask_for_semaphores_50_and_49() {
         (kind::REQSEMA, 50, 0),
         (kind::REQSEMA, 50, 32),
         (kind::RELSEMA, 50, 0),
-        (kind::RELSEMA, 50, 15),
+        (kind::RELSEMA, 50, 37),
         (kind::REQSEMA, 49, 6),
         (kind::RELSEMA, 49, 15),
     ] {
         let times = runs.get(&call).copied().unwrap_or(0);
         assert!(times >= 30, "kind, number and answer {call:?}: in {times} of 1,000 logs");
+    }
+}
+
+/// The holders that a run tells; `None` where a semaphore was free.
+fn told_in(seed: u64) -> BTreeSet<Option<u8>> {
+    let Run::Obeyed { outcomes, .. } = run(&generator::log(seed)) else {
+        return BTreeSet::new();
+    };
+    let told = outcomes.iter().filter_map(|outcome| match outcome.addition {
+        Addition::Holder(holder) => Some(holder),
+        _ => None,
+    });
+    told.collect()
+}
+
+#[test]
+fn random_logs_often_tell_who_holds_a_semaphore() {
+    let told: Vec<BTreeSet<Option<u8>>> = (1..=1_000).map(told_in).collect();
+    let in_logs = |is: &dyn Fn(Option<u8>) -> bool| {
+        told.iter().filter(|holders| holders.iter().any(|holder| is(*holder))).count()
+    };
+    assert!(in_logs(&|holder| holder.is_some()) >= 150);
+    assert!(in_logs(&|holder| holder.is_none()) >= 200);
+    for level in 0..=11 {
+        assert!(in_logs(&|holder| holder == Some(level)) >= 5, "level {level}");
     }
 }
 

@@ -3,6 +3,7 @@
 use crate::damage::{damaged, WAYS};
 use crate::executive::answer::Answer;
 use crate::executive::configuration::Configuration;
+use crate::executive::outcome::Addition;
 use crate::executive::Executive;
 use crate::generator;
 use crate::listing::listing;
@@ -69,6 +70,15 @@ fn sixteen_bytes_fit_into_a_putpool_and_no_more() {
     assert!(bad > listings.len() / 2 && bad < listings.len(), "{bad} of {}", listings.len());
 }
 
+/// What a refusal carries: 37 the holder of the semaphore, every other nothing.
+fn carried_by_a_refusal(executive: &Executive, record: &Record, answer: Answer) -> Addition {
+    if answer != Answer::NotHolder {
+        return Addition::Nothing;
+    }
+    let number = u8::try_from(record.first_parameter).expect("a usable number is a byte");
+    Addition::Holder(executive.semaphores().get(&number).map(|semaphore| semaphore.holder))
+}
+
 /// The table after each record of a log; refusals other than 3 leave it as it was.
 fn check(seed: u64) {
     let records = generator::records(seed);
@@ -81,6 +91,9 @@ fn check(seed: u64) {
         assert!(executive.is_sound(), "seed {seed} record {index}");
         if outcome.answer.is_refusal() && outcome.answer != Answer::ReceiverBufferFull {
             assert!(executive == before && outcome.wakes.is_empty(), "seed {seed} record {index}");
+        }
+        if outcome.answer.is_refusal() {
+            assert_eq!(outcome.addition, carried_by_a_refusal(&before, record, outcome.answer));
         }
         assert_ne!(outcome.answer, Answer::BadLog);
     }

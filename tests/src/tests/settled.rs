@@ -23,6 +23,17 @@ fn usable_semaphores() {
     }
 }
 
+#[test]
+fn who_does_not_hold_a_semaphore_is_told_who_does() {
+    for number in [0, 31, 50, 51, 95] {
+        let text = two("0", 1, &format!("2 RELSEMA {number}\n2 REQSEMA {number}\n3 RELSEMA {number}\n"));
+        assert!(listed(&text).ends_with("4 37 255\n5 0\n6 37 2\n"), "{number}");
+    }
+    let all =
+        two("0", 1, "2 RELSEMA all\n3 REQSEMA 7\n2 RELSEMA all\n2 RELSEMA 7\n3 RELSEMA 7\n3 RELSEMA 7\n");
+    assert!(listed(&all).ends_with("4 0\n5 0\n6 0\n7 37 3\n8 0\n9 37 255\n"));
+}
+
 /// The orders that are carried out on the tick after so many ticks.
 fn carried_out_after(clock: &str, time: &str, ticks: u32) -> String {
     let order = format!("2 SCHEDULE to 3 always {time} count 1 message 01\nticks {ticks}\nticks 1\n");

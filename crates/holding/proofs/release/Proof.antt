@@ -15,7 +15,7 @@ use Rattle.process.specs.Process.{freshOf, movedOf}
 use Rattle.table.specs.declared.Table.{Table}
 use Rattle.table.specs.Wakes.{wakesOf}
 use Rattle.calls.specs.Levels.{processAt, withProcesses, withSemaphores}
-use Rattle.calls.specs.Outcomes.{answeredOf}
+use Rattle.calls.specs.Outcomes.{repliedOf}
 use Rattle.holding.specs.Holding.{handoverWake, Handed, handedAt, handedTo, handedToOf, listedOf}
 use Rattle.holding.proofs.Deciding.{given-all}
 use Rattle.holding.proofs.Handing.{handed, handed-list}
@@ -24,14 +24,14 @@ use Rattle.holding.proofs.release.Tie as tie
 
 -- those that have woken so far and those that are left come to all of them, and nothing else of the table changes
 abbrev Inv-loop : tie.InvT-loop
-Inv-loop caller number after₀ answer levels count wakes₀ at₀ after wakes at =
+Inv-loop caller number after₀ answer shown carried levels count wakes₀ at₀ after wakes at =
     (at ≤ count)
     × (length (after .processes) ≡ 12)
     × (after ≡ withProcesses after₀ (after .processes))
     × (foldOf handedToOf (handed (after .processes) wakes) (drop at (take count levels)) ≡ foldOf handedToOf (handed (after₀ .processes) wakes₀) (take count levels))
 
 abbrev μ-loop : tie.MeasureT-loop
-μ-loop caller number after₀ answer levels count wakes₀ at₀ after wakes at = count - at
+μ-loop caller number after₀ answer shown carried levels count wakes₀ at₀ after wakes at = count - at
 
 -- the arrays of processes and of levels are whole
 whole : (c : tie.Start Inv-loop μ-loop) → length (c .args .table .processes) ≡ 12
@@ -83,9 +83,9 @@ returns c =
     let ended : handed (loop .after .processes) (loop .wakes) ≡ handed (handedTo (first .processes) woken) (wakesOf (map handoverWake woken)) =
     walk-end handedToOf (handed (loop .after .processes) (loop .wakes)) _ levels (most .result) (loop .at) (c .before .loop-test .left) (loop .inv .3)
     ∙ rw (c .before .before .before .none .ensures) (handed-list (first .processes) woken) in
-    c .answered .ensures
-    ∙ ap (λ (t : Table). answeredOf t (given .result .answer) (loop .wakes)) (loop .inv .2)
-    ∙ ap (λ (h : Handed). answeredOf (withProcesses first (h .processes)) (given .result .answer) (h .wakes)) ended
+    c .replied .ensures
+    ∙ ap (λ (t : Table). repliedOf t (given .result .answer) (given .result .shown) (given .result .number) (loop .wakes)) (loop .inv .2)
+    ∙ ap (λ (h : Handed). repliedOf (withProcesses first (h .processes)) (given .result .answer) (given .result .shown) (given .result .number) (h .wakes)) ended
     ∙ rw (most .ensures, given .ensures, c .before .before .before .before .before .before .before .before .before .before .least .ensures)
     (given-all (start .args .table) (start .args .caller) (start .args .number) _ (whole start))
 

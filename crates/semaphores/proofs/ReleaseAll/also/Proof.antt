@@ -15,6 +15,10 @@ returns-3 : tie.Need-returns-3
 unfolding alsoOf
 returns-3 c = rw (← c .before .before .before .release .ensures, c .enum-told2 .given .1)
 
+returns-4 : tie.Need-returns-4
+unfolding alsoOf
+returns-4 c = rw (← c .before .before .before .release .ensures, c .enum-told3 .given .1)
+
 pub also-spec : {M : Type 1} → statement M
 also-spec =
     tie.close
@@ -24,6 +28,8 @@ also-spec =
     (λ c κs. search needs)
     (λ c. search needs)
     (λ c. search needs)
+    (λ c. search needs)
     returns
     returns-2
-    returns-3)
+    returns-3
+    returns-4)

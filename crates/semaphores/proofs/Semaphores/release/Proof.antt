@@ -23,7 +23,7 @@ returns-2 c =
 
 returns-3 : tie.Need-returns-3
 unfolding releaseOf
-returns-3 c = rw (← c .before .holds .ensures, c .if1 .left)
+returns-3 c = rw (← c .before .before .holds .ensures, c .before .if1 .left, c .not-held .ensures)
 
 pub release-spec : {M : Type 1} → statement M
 release-spec =
@@ -36,4 +36,5 @@ release-spec =
     returns
     (λ c. below (c .before .before))
     returns-2
+    (λ c κs. search needs)
     returns-3)
