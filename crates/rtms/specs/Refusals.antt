@@ -21,7 +21,8 @@ use Rattle.rtms.specs.Calls.{Call, SEND, RELSEMA, doneBy, answerOf}
 -- "every other refusal changes nothing": where an effect is a refusal, and neither 3 nor 37, it is the number and nothing else, and the table as it was
 unfoldable pub Plain : Table → Effect → Type 0
 Plain t effect =
-    refusalOf (effect .answer) ≡ true → (numberOf (effect .answer) ≡ 3 → ⊥) → (numberOf (effect .answer) ≡ 37 → ⊥) → effect ≡ refuse t (effect .answer)
+    refusalOf (effect .answer) ≡ true → (numberOf (effect .answer) ≡ 3 → ⊥) → (numberOf (effect .answer) ≡ 37 → ⊥)
+    → effect ≡ refuse t (effect .answer)
 
 -- what a message that is sent with ALWAYS becomes at its receivers
 abbrev pub always : Table → ℕ → Message → Posted

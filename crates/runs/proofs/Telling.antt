@@ -93,7 +93,11 @@ module _ (s : Semaphores) (caller number : ℕ) (usable : usableOf number ≡ tr
       (λ own. rw own (held-number s caller number (rw (usable, own))))
       (λ other. unfold releasesOf notHeldOf in rw (usable, other))
 
--- by a process that may call it is answered 0 or 37, as the caller is seen to hold the number or not
+-- an effect that is not refused with 10 or 33 is answered 0 or 37, as the caller is seen to hold the number or not
+abbrev Answered : ℕ → Sight → Effect → Type 0
+Answered caller sight e = (numberOf (e .answer) ≡ 10 → ⊥) → (numberOf (e .answer) ≡ 33 → ⊥) → numberOf (e .answer) ≡ pick (sight .holds caller) 0 37
+
+-- so is a release of one usable number
 pub released-as-seen : ReleasedAsSeen
 unfolding releaseOf
 released-as-seen c good steps caller number usable =
@@ -101,9 +105,9 @@ released-as-seen c good steps caller number usable =
     let sight : Sight = sightAt c steps number in
     let seen : AsSeen number sight (t .semaphores) = held-as-seen c good steps number usable in
     let one : eqb number minusOne ≡ false = ne-eqb number minusOne (λ all. omega (arith, usable-below number usable)) in
-    subst (λ (e : Effect). (numberOf (e .answer) ≡ 10 → ⊥) → (numberOf (e .answer) ≡ 33 → ⊥) → numberOf (e .answer) ≡ pick (sight .holds caller) 0 37)
+    subst (Answered caller sight)
     (sym (steady-done (RELSEMA caller number) t (run-steady c good steps)))
-    (by-caller (λ (e : Effect). (numberOf (e .answer) ≡ 10 → ⊥) → (numberOf (e .answer) ≡ 33 → ⊥) → numberOf (e .answer) ≡ pick (sight .holds caller) 0 37) t caller _
+    (by-caller (Answered caller sight) t caller _
     (λ not-10 not-33. absurd (not-10 refl))
     (λ not-10 not-33. absurd (not-33 refl))
     (λ configured ready not-10 not-33.

@@ -169,7 +169,8 @@ pub record TellsAsSeen (c : Config) (steps : List Call) (call : Call) : Type 0 w
 
 -- what 37 tells is the holder as it is seen from outside
 abbrev pub ToldAsSeen : Type 0
-ToldAsSeen = (c : Config) → goodOf c ≡ true → (steps : List Call) (call : Call) → numberOf (doneBy call (runOf c steps) .answer) ≡ 37 → TellsAsSeen c steps call
+ToldAsSeen = (c : Config) → goodOf c ≡ true → (steps : List Call) (call : Call)
+    → numberOf (doneBy call (runOf c steps) .answer) ≡ 37 → TellsAsSeen c steps call
 
 -- and a RELSEMA of a usable number by a process that may call is answered 0 where that process is seen to hold the number, and 37 where it is not
 abbrev pub ReleasedAsSeen : Type 0
