@@ -60,7 +60,6 @@ abbrev pub special : Answer → Bool
 special answer = eqb (numberOf answer) 3 || eqb (numberOf answer) 37
 
 -- an effect is no refusal, or it is one that is the number alone, leaves the table as it was and is neither of these
-
 unfoldable pub Sorted : Table → Effect → Type 0
 Sorted t effect = (refusalOf (effect .answer) ≡ false) ⊎ ((effect ≡ refuse t (effect .answer)) × (special (effect .answer) ≡ false))
 
