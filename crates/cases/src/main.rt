@@ -95,6 +95,14 @@ fn time(asked: Fields) {
     end();
 }
 
+// A time of day in milliseconds, and its hour, minute, second and millisecond.
+fn told(time: TimeOfDay) {
+    word(b"fields");
+    number(time.milliseconds as u64);
+    numbers(time.fields());
+    end();
+}
+
 // When an order for that time is first carried out.
 fn first(asked: Fields) -> First {
     let made = TimeOfDay::made(asked);
@@ -298,6 +306,17 @@ fn main() {
     due(at(86_399_999), 1);
     time(fields(23, 59, 59, 999));
     time(fields(23, 59, 59, 1_000));
+    told(at(0));
+    told(at(999));
+    told(at(1_000));
+    told(at(59_999));
+    told(at(60_000));
+    told(at(3_599_999));
+    told(at(3_600_000));
+    told(at(45_296_789));
+    told(at(86_399_999));
+    told(at(86_400_000));
+    told(at(4_294_967_295));
     config(1, 11, 0);
     config(2, 11, 0);
     second_always();

@@ -2,3 +2,5 @@ pub mod Forward
 pub mod Until
 pub mod Ranges
 pub mod RoundTrip
+pub mod Halving
+pub mod UnitByUnit

@@ -1,2 +1,3 @@
 pub mod TimeOfDay
 pub mod Fields
+pub mod Counting

@@ -1,4 +1,8 @@
 // What a host in another language calls, from a static library. A slice is a pointer and a length.
+use day::TimeOfDay;
+ghost use mathlib.Core.Path.{_≡_};
+ghost use Rattle.day.specs.TimeOfDay.{at};
+ghost use Rattle.day.specs.Fields.{fieldsOf};
 ghost use Rattle.listing.specs.Text.{Laid};
 ghost use Rattle.running.specs.Running.{listingOf};
 
@@ -8,4 +12,24 @@ pub extern "C" fn rtms_listing(log: &[u8], out: &mut [u8]) -> usize
     ensures { λ r. ⌜ Laid (now (out .entry)) 0 (listingOf (now (log .entry))) 151000000 (now (out .exit)) r ⌝ }
 {
     running::list(log, out)
+}
+
+// The hour, minute, second and millisecond of a time of day in milliseconds, as READTIME answers it, each where the host wants it. It does
+// without division, for controllers that have none.
+#[no_mangle]
+pub extern "C" fn rtms_time_fields(
+    milliseconds: u32,
+    hour: &mut u8,
+    minute: &mut u8,
+    second: &mut u8,
+    millisecond: &mut u16,
+)
+    ensures { λ _. ⌜ record { hour = now (hour .exit); minute = now (minute .exit); second = now (second .exit); millisecond = now (millisecond .exit) } ≡ fieldsOf (at milliseconds) ⌝ }
+{
+    let time = TimeOfDay { milliseconds };
+    let fields = time.fields();
+    *hour = fields.hour;
+    *minute = fields.minute;
+    *second = fields.second;
+    *millisecond = fields.millisecond;
 }
