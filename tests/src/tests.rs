@@ -2,6 +2,8 @@
 
 mod case;
 mod coverage;
+#[cfg(feature = "in-process")]
+mod exported;
 mod form;
 mod golden;
 mod pool;
