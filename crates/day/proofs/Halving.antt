@@ -1,7 +1,8 @@
 -- A count by a unit, and what halving pieces make of it: the laws behind `halved` and `counted`. Assumes nothing.
 use mathlib.Core.Path.{_≡_, _∙_, ap, sym}
 use Prim.Native.Nat.{ℕ, zero, suc, _+_, _-_, _*_, _/_, _%_, _<_, _≤_}
-use native.Mathlib.Nat.{mul-add, add-mul, one-mul, mod-lt, div-add-mod', div-lt-iff-lt-mul, le-div-iff-mul-le, add-mul-div-right, add-mul-mod-self-right}
+use native.Mathlib.Nat.{mul-add, add-mul, one-mul, mod-lt, div-add-mod'}
+use native.Mathlib.Nat.{div-lt-iff-lt-mul, le-div-iff-mul-le, add-mul-div-right, add-mul-mod-self-right}
 use native.Mathlib.Omega.{arith}
 use lib.Arith.{digits-div, digits-mod}
 use Rattle.day.specs.declared.Count.{Count}

@@ -124,7 +124,7 @@ impl TimeOfDay {
         Made::Time(named(fields))
     }
 
-    // Hour, minute, second and millisecond, with no division.
+    // Hour, minute, second and millisecond, without division.
     pub fn fields(self) -> Fields
         ensures { λ r. ⌜ r ≡ fieldsOf self ⌝ }
     {

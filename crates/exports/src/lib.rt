@@ -14,8 +14,8 @@ pub extern "C" fn rtms_listing(log: &[u8], out: &mut [u8]) -> usize
     running::list(log, out)
 }
 
-// The hour, minute, second and millisecond of a time of day in milliseconds, as READTIME answers it, each where the host wants it. It does
-// without division, for controllers that have none.
+// The hour, minute, second and millisecond of a time of day in milliseconds, as READTIME answers it, each laid where the host wants it. No
+// division is done, for controllers on which that is a large routine.
 #[no_mangle]
 pub extern "C" fn rtms_time_fields(
     milliseconds: u32,
@@ -24,7 +24,10 @@ pub extern "C" fn rtms_time_fields(
     second: &mut u8,
     millisecond: &mut u16,
 )
-    ensures { λ _. ⌜ record { hour = now (hour .exit); minute = now (minute .exit); second = now (second .exit); millisecond = now (millisecond .exit) } ≡ fieldsOf (at milliseconds) ⌝ }
+    ensures { λ _. ⌜ now (hour .exit) ≡ fieldsOf (at milliseconds) .hour ⌝ }
+    ensures { λ _. ⌜ now (minute .exit) ≡ fieldsOf (at milliseconds) .minute ⌝ }
+    ensures { λ _. ⌜ now (second .exit) ≡ fieldsOf (at milliseconds) .second ⌝ }
+    ensures { λ _. ⌜ now (millisecond .exit) ≡ fieldsOf (at milliseconds) .millisecond ⌝ }
 {
     let time = TimeOfDay { milliseconds };
     let fields = time.fields();
