@@ -11,8 +11,8 @@ LOGS ?=
 # The crates whose further must-fail edits `make edits` tries: all that have some, unless some are named.
 CRATES ?=
 
-# The verdict: every crate is proved from nothing, the must-fail edits are tried, every program is run and compared, and whole listings are
-# compared with the independent model's.
+# The verdict: every crate is proved from nothing, the must-fail edits are tried, every program is run and compared, whole listings are
+# compared with the independent model's, and the static library is called, and searched for divisions where none may be.
 test:
 	tools/test
 
