@@ -1,6 +1,6 @@
 // One word of a set: 64 inputs.
 ghost use Rattle.std.specs.Prelude.{◌≡◌, ◌+◌, ◌≤◌, ltb};
-ghost use Rattle.std.specs.Int.Count.{ones as onesOf};
+ghost use Rattle.std.specs.Int.Count.{ones as ones_of};
 ghost use Rattle.inputs.specs.InputSet.{word_of};
 
 // The inputs below a limit, in the word whose first input is `base`.
@@ -16,7 +16,7 @@ pub fn below(limit: u16, base: u16) -> u64
 
 // A word has no more ones than bits.
 pub fn ones(word: u64) -> u32
-    ensures { (result ≡ onesOf word) × (result ≤ 64) }
+    ensures { (result ≡ ones_of word) × (result ≤ 64) }
 {
     u64::count_ones(word)
 }
