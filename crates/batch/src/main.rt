@@ -1,5 +1,6 @@
 // Many logs in one run: a batch is frames on standard input, each the length of a log in four bytes, the lowest first, and the log. For
 // frame k it prints a line `# k` and the log's listing.
+#![tactic(auto)]
 
 ghost use Rattle.std.specs.Prelude.{◌≡◌, length};
 

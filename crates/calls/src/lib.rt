@@ -1,4 +1,6 @@
 // What all calls share: their checks in order, the process at a level, and how an answer is given.
+#![tactic(auto)]
+
 ghost use Rattle.std.specs.Prelude.{◌≡◌, set};
 ghost use Rattle.calls.specs.Decisions.{decided, told_of};
 ghost use Rattle.calls.specs.Effects.{nothing};

@@ -1,5 +1,7 @@
 // Document 01's "Cases to settle", run: a line for each, with what is asked and what comes. (Those marked p are proved: specs/Cases.) Semaphores 50 and 49
 // are as document 02, §2, has them. Then the pool of document 02, §1, as a host lends it, and why RELSEMA is refused, §3.
+#![tactic(auto)]
+
 use day::{Fields, Made, TimeOfDay};
 use orders::First;
 use process::Condition;

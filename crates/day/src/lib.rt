@@ -1,4 +1,6 @@
 // The time of day: what document 01 calls the clock and every moment that a timer order is due.
+#![tactic(auto)]
+
 ghost use Rattle.std.specs.Prelude.{◌≡◌, ◌*◌, ◌<◌, ◌≤◌};
 ghost use Rattle.day.specs.TimeOfDay.{forward_of, until_of};
 ghost use Rattle.day.specs.Fields.{time_of, made_of, fields_of};

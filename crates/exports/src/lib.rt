@@ -1,4 +1,6 @@
 // What a host in another language calls, from a static library. A slice is a pointer and a length.
+#![tactic(auto)]
+
 ghost use Rattle.std.specs.Prelude.{◌≡◌};
 ghost use Rattle.day.specs.TimeOfDay.{at};
 ghost use Rattle.day.specs.Fields.{fields_of};

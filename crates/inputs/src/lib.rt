@@ -1,4 +1,6 @@
 // Sets of inputs 0..255: what an owner's mask, the latches and the answer of AWAITINTERRUPT are.
+#![tactic(auto)]
+
 ghost use Rattle.std.specs.Prelude.{◌≡◌};
 ghost use Rattle.inputs.specs.InputSet.{has_of, empty_of, single_of, below_of, insert_of, remove_of, either_of, both_of, except_of, run_of, count_of, next_of};
 

@@ -1,4 +1,6 @@
 // The calls of messages: SEND, RECEIVE, AWAITMESSAGE and CLEARMESSAGE, for a table that is known to be sound.
+#![tactic(auto)]
+
 ghost use Rattle.std.specs.Prelude.{◌≡◌, ◌<◌};
 ghost use Rattle.common.specs.Choice.{pick};
 ghost use Rattle.calls.specs.Effects.{outcome_of};

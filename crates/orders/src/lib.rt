@@ -1,4 +1,6 @@
 // Timer orders: the moments at which a message is to be delivered, in order of acceptance.
+#![tactic(auto)]
+
 ghost use Rattle.std.specs.Prelude.{◌≡◌, ◌-◌};
 ghost use Rattle.orders.specs.Moments.{interval_of, delay_of};
 ghost use Rattle.orders.specs.Orders.{none_of, push_of, push_if_of, accept_of};

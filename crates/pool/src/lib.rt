@@ -1,5 +1,7 @@
 // The common data pool: which processes use it and the lengths that they stated, and the moving of its bytes, which the host lends beside the
 // table.
+#![tactic(auto)]
+
 ghost use Rattle.std.specs.Prelude.{◌≡◌, ◌+◌, leb, replicate};
 ghost use Rattle.pool.specs.Control.{fresh_of, begun_of, agrees_of, began_of, stated_of};
 ghost use Rattle.pool.specs.Parts.{put_of, get_of};

@@ -1,5 +1,7 @@
 // How messages reach their receivers, whether a process sent them or a timer order carries them: one after the other, with the
 // marks of those that lost one and the wakes of those that waited.
+#![tactic(auto)]
+
 ghost use Rattle.std.specs.Prelude.{◌≡◌};
 ghost use Rattle.posting.specs.Posting.{letter, is_handed, is_full, is_lost, marked_by, delivered_to, begin_of, pushed_for, step_of};
 

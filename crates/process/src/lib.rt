@@ -1,4 +1,6 @@
 // One process: its state, priority, marks and message buffer, and how a message reaches it.
+#![tactic(auto)]
+
 ghost use Rattle.std.specs.Prelude.{◌≡◌};
 ghost use Rattle.process.specs.Process.{fresh_of, moved_of, with_priority_of, cleared_of, overflow_marked_of, time_marked_of, handed_of, stored_of, deliver_of, taken_of, is_known};
 

@@ -1,4 +1,6 @@
 // `rtmslog`: a call log on standard input, its listing on standard output.
+#![tactic(auto)]
+
 ghost use Rattle.std.specs.Prelude.{◌≡◌, ◌+◌, ◌≤◌, length};
 
 // What one read brought.

@@ -1,4 +1,6 @@
 // The semaphores: who holds each, and who waits for one, in order of arrival.
+#![tactic(auto)]
+
 ghost use Rattle.std.specs.Prelude.{◌≡◌};
 ghost use Rattle.semaphores.specs.Semaphores.{requested_number, released_number, usable_of, fresh_of, request_of, holds_of, not_held_of, release_of, also_of, release_all_of};
 

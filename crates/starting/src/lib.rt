@@ -1,4 +1,6 @@
 // START and SETPRIORITY, for a table that is known to be sound.
+#![tactic(auto)]
+
 ghost use Rattle.std.specs.Prelude.{◌≡◌};
 ghost use Rattle.calls.specs.Effects.{outcome_of};
 ghost use Rattle.starting.specs.Starting.{start_of, set_priority_of, started_of, prioritized_of};

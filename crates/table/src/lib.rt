@@ -1,4 +1,6 @@
 // The table that holds all areas, what makes one sound, and what every call answers with.
+#![tactic(auto)]
+
 ghost use Rattle.std.specs.Prelude.{◌≡◌};
 ghost use Rattle.table.specs.Table.{fresh_of, refused_of, said_of};
 

@@ -1,4 +1,6 @@
 // The clock's ticks: one, and a run of any number of them, for a table that is known to be sound.
+#![tactic(auto)]
+
 ghost use Rattle.std.specs.Prelude.{◌≡◌, true, false};
 ghost use Rattle.calls.specs.Effects.{outcome_of};
 ghost use Rattle.ticking.specs.Ticking.{run_effect, tick_of, ticks_of, runs_on, none_due, clock_after, scheduler_after, is_lull, lull_of};

@@ -1,5 +1,7 @@
 // The calls of timer orders and the clock: SCHEDULE, CANCELSCHEDULE, SHUTDOWN, the start of the scheduler and READTIME, for a
 // table that is known to be sound.
+#![tactic(auto)]
+
 ghost use Rattle.std.specs.Prelude.{◌≡◌};
 ghost use Rattle.calls.specs.Effects.{outcome_of};
 ghost use Rattle.timers.specs.Timers.{moment_of, starts_when, first_by, order_of, ordered, schedule_verdict, schedule_of, cancel_answer, cancelled_of, cancel_schedule_of, shutdown_of, start_scheduler_of, read_time_of};
