@@ -8,7 +8,7 @@ ghost use Rattle.std.specs.Prelude.{◌≡◌, length};
 const MOST: usize = 70_000;
 
 // A frame's length, or that there is no more.
-#[derive(Drop)]
+#[derive(Clone, Copy)]
 enum Frame {
     Bytes(usize),
     None,

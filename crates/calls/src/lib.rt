@@ -19,7 +19,7 @@ use table::wakes::Wakes;
 use table::{Outcome, Shown, Table};
 
 // What became of a call's checks: all passed, or the first that failed refuses the call by its number.
-#[derive(Drop)]
+#[derive(Clone, Copy)]
 pub enum Verdict {
     Passed,
     Refused(Answer),

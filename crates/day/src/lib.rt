@@ -21,13 +21,13 @@ const SECOND: u32 = 1_000;
 
 // A moment of the day, in milliseconds after midnight. One of a day or more reads as the time of day that the clock shows
 // then: no function asks for less.
-#[derive(Drop)]
+#[derive(Clone, Copy)]
 pub struct TimeOfDay {
     pub milliseconds: u32,
 }
 
 // A time of day as a plant's programs write it and READTIME hands it out.
-#[derive(Drop)]
+#[derive(Clone, Copy)]
 pub struct Fields {
     pub hour: u8,
     pub minute: u8,
@@ -36,7 +36,7 @@ pub struct Fields {
 }
 
 // What fields make: a time of day, or the first of them that is out of its range.
-#[derive(Drop)]
+#[derive(Clone, Copy)]
 pub enum Made {
     Time(TimeOfDay),
     BadMillisecond,
@@ -46,7 +46,7 @@ pub enum Made {
 }
 
 // How many whole units of time a number of milliseconds has, and the milliseconds that are left.
-#[derive(Drop)]
+#[derive(Clone, Copy)]
 struct Count {
     units: u8,
     left: u32,

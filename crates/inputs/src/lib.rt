@@ -7,13 +7,13 @@ ghost use Rattle.inputs.specs.InputSet.{has_of, empty_of, single_of, below_of, i
 mod word;
 
 // Input n is bit n mod 64 of word n / 64.
-#[derive(Drop)]
+#[derive(Clone, Copy)]
 pub struct InputSet {
     pub words: [u64; 4],
 }
 
 // The lowest input of a set, or that it has none.
-#[derive(Drop)]
+#[derive(Clone, Copy)]
 pub enum NextInput {
     Input(u8),
     NoMore,

@@ -14,7 +14,7 @@ use process::{Condition, Target};
 // The most places that a configuration gives the order table.
 pub const MOST_ORDERS: usize = 64;
 
-#[derive(Drop)]
+#[derive(Clone, Copy)]
 pub struct Order {
     // Who gave the order. No search for an order leaves it out: two customers' orders may agree in all else.
     pub sender: u8,
@@ -30,14 +30,14 @@ pub struct Order {
 }
 
 // The order that was accepted first lies at place 0, and `count` says how many stand. What lies past them makes no difference.
-#[derive(Drop)]
+#[derive(Clone, Copy)]
 pub struct Orders {
     pub places: [Order; 64],
     pub count: usize,
 }
 
 // When an order is first carried out: one interval from now, or at a time of day.
-#[derive(Drop)]
+#[derive(Clone, Copy)]
 pub enum First {
     Relative,
     At(TimeOfDay),
@@ -49,7 +49,7 @@ pub struct Accept {
     pub orders: Orders,
 }
 
-#[derive(Drop)]
+#[derive(Clone, Copy)]
 pub enum Cancelled {
     // The sender is neither all nor a level.
     BadSender,
@@ -71,7 +71,7 @@ pub struct Cancel {
 }
 
 // An order after a moment: whether it still stands, and as what.
-#[derive(Drop)]
+#[derive(Clone, Copy)]
 pub struct Onward {
     pub stays: bool,
     pub order: Order,

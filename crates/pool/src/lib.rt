@@ -13,7 +13,7 @@ pub const LARGEST: u16 = 4_096;
 pub const NEVER: u16 = 65_535;
 
 // Who uses the pool, by level.
-#[derive(Drop)]
+#[derive(Clone, Copy)]
 pub struct Control {
     // The process has called INITPOOL.
     pub begun: [bool; 12],

@@ -11,7 +11,7 @@ use process::{Condition, Delivery, Fate, Process};
 use table::wakes::{Wake, Wakes, Woken};
 
 // Where a message comes from.
-#[derive(Drop)]
+#[derive(Clone, Copy)]
 pub enum Origin {
     // A process's SEND.
     Sent,

@@ -5,13 +5,13 @@ ghost use Rattle.process.specs.Messages.{empty_of, put_of, oldest_of, shifted_of
 // The most places that a configuration gives a process.
 pub const MOST_PLACES: usize = 16;
 
-#[derive(Drop)]
+#[derive(Clone, Copy)]
 pub struct Message {
     pub bytes: [u8; 16],
 }
 
 // The oldest message lies at place 0, and `count` says how many are kept. What lies past them makes no difference.
-#[derive(Drop)]
+#[derive(Clone, Copy)]
 pub struct Buffer {
     pub kept: [Message; 16],
     pub count: usize,

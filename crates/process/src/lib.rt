@@ -12,7 +12,7 @@ use buffers::{Buffer, Message};
 use marking::{Marks, Told};
 use states::{Cause, Next, State};
 
-#[derive(Drop)]
+#[derive(Clone, Copy)]
 pub struct Process {
     pub state: State,
     pub priority: u8,
@@ -21,7 +21,7 @@ pub struct Process {
 }
 
 // Whom a call names: all, one level, or nobody there is.
-#[derive(Drop)]
+#[derive(Clone, Copy)]
 pub enum Target {
     All,
     Level(u8),
@@ -29,14 +29,14 @@ pub enum Target {
 }
 
 // What a sender asks of the receiver: that it waits for a message, or nothing.
-#[derive(Drop)]
+#[derive(Clone, Copy)]
 pub enum Condition {
     Always,
     Waiting,
 }
 
 // What became of a message.
-#[derive(Drop)]
+#[derive(Clone, Copy)]
 pub enum Fate {
     // It was handed over and woke the process, which is told this of its marks.
     Handed(Told),

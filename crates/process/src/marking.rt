@@ -2,7 +2,7 @@
 ghost use Rattle.std.specs.Prelude.{◌≡◌};
 ghost use Rattle.process.specs.Marks.{tell_of, number_of};
 
-#[derive(Drop)]
+#[derive(Clone, Copy)]
 pub struct Marks {
     // A message was lost by a full buffer.
     pub overflow: bool,
@@ -11,14 +11,14 @@ pub struct Marks {
 }
 
 // What is told with a message.
-#[derive(Drop)]
+#[derive(Clone, Copy)]
 pub enum Told {
     Nothing,
     Overflow,
     Time,
 }
 
-#[derive(Drop)]
+#[derive(Clone, Copy)]
 pub struct Telling {
     pub told: Told,
     pub marks: Marks,

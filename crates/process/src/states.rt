@@ -3,7 +3,7 @@ ghost use Rattle.std.specs.Prelude.{◌≡◌};
 ghost use Rattle.process.specs.States.{next_of, row_of, column_of, is_of};
 
 // Document 01's INACT, READY, WM, WE and WR.
-#[derive(Drop)]
+#[derive(Clone, Copy)]
 pub enum State {
     Inactive,
     Ready,
@@ -12,7 +12,7 @@ pub enum State {
     WaitingForSemaphore,
 }
 
-#[derive(Drop)]
+#[derive(Clone, Copy)]
 pub enum Cause {
     Start,
     WaitForMessage,
@@ -23,7 +23,7 @@ pub enum Cause {
     Handover,
 }
 
-#[derive(Drop)]
+#[derive(Clone, Copy)]
 pub enum Next {
     Nowhere,
     To(State),

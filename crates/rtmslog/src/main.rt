@@ -4,14 +4,14 @@
 ghost use Rattle.std.specs.Prelude.{◌≡◌, ◌+◌, ◌≤◌, length};
 
 // What one read brought.
-#[derive(Drop)]
+#[derive(Clone, Copy)]
 struct Brought {
     count: usize,
     failed: bool,
 }
 
 // What all reads brought.
-#[derive(Drop)]
+#[derive(Clone, Copy)]
 struct Input {
     length: usize,
     failed: bool,

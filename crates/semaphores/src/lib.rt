@@ -11,7 +11,7 @@ use queues::{Levels, Queue, Waiter};
 // Stands for a holder where there is none.
 pub const FREE: u8 = 255;
 
-#[derive(Drop)]
+#[derive(Clone, Copy)]
 pub struct Semaphores {
     // The level that holds each number, or FREE.
     pub holders: [u8; 96],
@@ -19,7 +19,7 @@ pub struct Semaphores {
     pub queue: Queue,
 }
 
-#[derive(Drop)]
+#[derive(Clone, Copy)]
 pub enum Requested {
     Unusable,
     Held,
@@ -32,7 +32,7 @@ pub struct Request {
     pub semaphores: Semaphores,
 }
 
-#[derive(Drop)]
+#[derive(Clone, Copy)]
 pub enum Released {
     Unusable,
     // The caller does not hold it: the level that does, or FREE.

@@ -2,21 +2,21 @@
 ghost use Rattle.std.specs.Prelude.{◌≡◌};
 ghost use Rattle.semaphores.specs.Queues.{empty_of, push_of, passed_of, leaving_of, none_of, with_of};
 
-#[derive(Drop)]
+#[derive(Clone, Copy)]
 pub struct Waiter {
     pub level: u8,
     pub number: u8,
 }
 
 // At most as many as there are levels: a process waits for one semaphore at a time. The first lies at place 0.
-#[derive(Drop)]
+#[derive(Clone, Copy)]
 pub struct Queue {
     pub waiters: [Waiter; 12],
     pub count: usize,
 }
 
 // Levels in order: place 0 first.
-#[derive(Drop)]
+#[derive(Clone, Copy)]
 pub struct Levels {
     pub levels: [u8; 12],
     pub count: usize,

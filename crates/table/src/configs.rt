@@ -15,14 +15,14 @@ pub const MINUS_ONE: u16 = 65_535;
 pub const NEGATIVE: u16 = 32_768;
 
 // A privileged process and its run of inputs.
-#[derive(Drop)]
+#[derive(Clone, Copy)]
 pub struct Privileged {
     pub level: u8,
     pub first: u8,
     pub last: u8,
 }
 
-#[derive(Drop)]
+#[derive(Clone, Copy)]
 pub struct Config {
     // Lowest level L and number of processes P, as their 16-bit words: a negative one is above every limit.
     pub lowest: u16,
@@ -43,7 +43,7 @@ pub struct Config {
 }
 
 // Whether a privileged place was found.
-#[derive(Drop)]
+#[derive(Clone, Copy)]
 pub enum Privilege {
     Owns(Privileged),
     Nobody,

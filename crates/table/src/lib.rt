@@ -20,14 +20,14 @@ use process::buffers::Message;
 use semaphores::Semaphores;
 use wakes::Wakes;
 
-#[derive(Drop)]
+#[derive(Clone, Copy)]
 pub struct Scheduler {
     pub running: bool,
     // SHUTDOWN's switch: the next tick stops the scheduler.
     pub switch: bool,
 }
 
-#[derive(Drop)]
+#[derive(Clone, Copy)]
 pub struct Table {
     pub config: Config,
     pub clock: TimeOfDay,
@@ -44,7 +44,7 @@ pub struct Table {
 }
 
 // What an answer carries, besides its number.
-#[derive(Drop)]
+#[derive(Clone, Copy)]
 pub enum Shown {
     Nothing,
     Message,
@@ -55,7 +55,7 @@ pub enum Shown {
 }
 
 // The one result of every call, event and tick.
-#[derive(Drop)]
+#[derive(Clone, Copy)]
 pub struct Outcome {
     pub answer: Answer,
     pub shown: Shown,

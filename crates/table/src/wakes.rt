@@ -7,7 +7,7 @@ use process::buffers::Message;
 use process::marking::Told;
 
 // By what a process wakes.
-#[derive(Drop)]
+#[derive(Clone, Copy)]
 pub enum Woken {
     // A message, which is handed over with one mark told.
     ByMessage(Told),
@@ -17,7 +17,7 @@ pub enum Woken {
     ByHandover,
 }
 
-#[derive(Drop)]
+#[derive(Clone, Copy)]
 pub struct Wake {
     pub level: u8,
     pub woken: Woken,
@@ -28,7 +28,7 @@ pub struct Wake {
 }
 
 // In order: the first at place 0. Twelve are enough, since a process wakes at most once.
-#[derive(Drop)]
+#[derive(Clone, Copy)]
 pub struct Wakes {
     pub wakes: [Wake; 12],
     pub count: usize,

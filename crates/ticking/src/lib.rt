@@ -12,7 +12,7 @@ use table::wakes::Wakes;
 use table::{Outcome, Scheduler, Table};
 
 // What so many ticks come to where they carry out no order: a lull. The clock and the scheduler are all that changes.
-#[derive(Drop)]
+#[derive(Clone, Copy)]
 pub struct Lull {
     // No order is carried out by any of them.
     pub holds: bool,

@@ -17,7 +17,7 @@ use table::wakes::Wakes;
 use table::{Outcome, Scheduler, Table, configs};
 
 // What SCHEDULE is told. Signed numbers are the words of their bits.
-#[derive(Drop)]
+#[derive(Clone, Copy)]
 pub struct NewOrder {
     pub receiver: u16,
     pub condition: Condition,
@@ -33,7 +33,7 @@ pub struct NewOrder {
 const LONG_NEGATIVE: u32 = 2_147_483_648;
 
 // When an order is first to be carried out, as far as its fields tell.
-#[derive(Drop)]
+#[derive(Clone, Copy)]
 pub enum Moment {
     After,
     At(TimeOfDay),
