@@ -4,6 +4,8 @@
 
 ghost use Rattle.std.specs.Prelude.{◌≡◌, length};
 
+use std::io::Read;
+
 // The longest frame: longer than the largest log, so that logs that are too long can be tried.
 const MOST: usize = 70_000;
 
@@ -14,10 +16,9 @@ enum Frame {
     None,
 }
 
-fn read_length() -> Frame {
+fn read_length<R: Read>(reader: &mut R) -> Frame {
     let mut head: [u8; 4] = [0; 4];
-    let got = io::read_full(libc::STDIN_FILENO, &mut head);
-    if got != 4 {
+    if reader.read_exact(&mut head).is_err() {
         return Frame::None;
     }
     let length = records::long(head[0], head[1], head[2], head[3]) as usize;
@@ -29,46 +30,57 @@ fn read_length() -> Frame {
 }
 
 // A frame's log and its listing. It answers whether the frame was whole and all could be written.
-fn print_frame(index: u64, bytes: usize, space: &mut [u8], out: &mut [u8]) -> bool
+fn print_frame<R: Read>(
+    rt: &impl Print,
+    reader: &mut R,
+    index: u64,
+    bytes: usize,
+    space: &mut [u8],
+    out: &mut [u8],
+) -> bool
     ensures { (length space.new ≡ length space.old) × (length out.new ≡ length out.old) }
 {
     if space.len() < bytes {
         return false;
     }
-    let got = io::read_full(libc::STDIN_FILENO, &mut space[0..bytes]);
-    if got != bytes {
+    if reader.read_exact(&mut space[0..bytes]).is_err() {
         return false;
     }
-    let sign = io::write_all(libc::STDOUT_FILENO, b"# ");
-    let number = io::print_decimal(libc::STDOUT_FILENO, index);
-    let end = io::write_all(libc::STDOUT_FILENO, b"\n");
+    let heading = println!(rt; "# {index}").is_ok();
     let log: &[u8] = &space[..];
-    sign & number & end & printing::print(&log[0..bytes], out)
+    heading & printing::print(rt, &log[0..bytes], out)
 }
 
 // One frame. It answers whether to go on.
-fn print_next(index: u64, space: &mut [u8], out: &mut [u8]) -> bool
+fn print_next<R: Read>(
+    rt: &impl Print,
+    reader: &mut R,
+    index: u64,
+    space: &mut [u8],
+    out: &mut [u8],
+) -> bool
     ensures { (length space.new ≡ length space.old) × (length out.new ≡ length out.old) }
 {
-    let frame = read_length();
+    let frame = read_length(reader);
     match frame {
-        Frame::Bytes(length) => print_frame(index, length, space, out),
+        Frame::Bytes(length) => print_frame(rt, reader, index, length, space, out),
         Frame::None => false,
     }
 }
 
 // Frame after frame, while there are more.
-fn print_all(space: &mut [u8], out: &mut [u8]) {
+fn print_all<R: Read>(rt: &impl Print, reader: &mut R, space: &mut [u8], out: &mut [u8]) {
     let mut index: u64 = 0;
     let mut more = true;
     while more & (index < 4_294_967_295) {
-        more = print_next(index, space, out);
+        more = print_next(rt, reader, index, space, out);
         index += 1;
     }
 }
 
-fn main() {
+fn main(rt: HostRuntime) {
     let mut space: [u8; 70_000] = [0; 70_000];
     let mut room = printing::room();
-    print_all(&mut space, &mut room);
+    let mut reader = rt.reader();
+    print_all(&rt, &mut reader, &mut space, &mut room);
 }

@@ -11,8 +11,6 @@ use table::configs::{Config, Privileged, UNUSED};
 use table::{Outcome, Shown, Table};
 use timers::NewOrder;
 
-const STANDARD_OUTPUT: i32 = 1;
-
 // What lies in a privileged place that is not used.
 const NOBODY: Privileged = Privileged {
     level: UNUSED,
@@ -21,39 +19,38 @@ const NOBODY: Privileged = Privileged {
 };
 
 // Where output fails there is nobody to tell; the comparison with `stdout` shows it.
-fn word(text: &[u8]) {
-    io::write_all(STANDARD_OUTPUT, text);
+fn word(rt: &impl Print, text: &[u8]) {
+    let _ = rt.write_all(text);
 }
 
 // A blank, and a number behind it.
-fn number(value: u64) {
-    word(b" ");
-    io::print_decimal(STANDARD_OUTPUT, value);
+fn number(rt: &impl Print, value: u64) {
+    let _ = print!(rt; " {value}");
 }
 
 // 1 for yes, 0 for no.
-fn flag(holds: bool) {
-    number(common::one_if(holds) as u64);
+fn flag(rt: &impl Print, holds: bool) {
+    number(rt, common::one_if(holds) as u64);
 }
 
-fn end() {
-    word(b"\n");
+fn end(rt: &impl Print) {
+    word(rt, b"\n");
 }
 
 // A semaphore's number, and whether it is usable.
-fn usable(asked: u16) {
-    word(b"usable");
-    number(asked as u64);
-    flag(semaphores::usable(asked));
-    end();
+fn usable(rt: &impl Print, asked: u16) {
+    word(rt, b"usable");
+    number(rt, asked as u64);
+    flag(rt, semaphores::usable(asked));
+    end(rt);
 }
 
 // `to`, and the interval.
-fn interval(to: u32) {
-    word(b"interval");
-    number(to as u64);
-    number(orders::interval(to) as u64);
-    end();
+fn interval(rt: &impl Print, to: u32) {
+    word(rt, b"interval");
+    number(rt, to as u64);
+    number(rt, orders::interval(to) as u64);
+    end(rt);
 }
 
 fn fields(hour: u8, minute: u8, second: u8, millisecond: u16) -> Fields {
@@ -65,34 +62,34 @@ fn fields(hour: u8, minute: u8, second: u8, millisecond: u16) -> Fields {
     }
 }
 
-fn numbers(time: Fields) {
-    number(time.hour as u64);
-    number(time.minute as u64);
-    number(time.second as u64);
-    number(time.millisecond as u64);
+fn numbers(rt: &impl Print, time: Fields) {
+    number(rt, time.hour as u64);
+    number(rt, time.minute as u64);
+    number(rt, time.second as u64);
+    number(rt, time.millisecond as u64);
 }
 
 // Hour, minute, second and millisecond, and their time of day, or that they are refused.
-fn time(asked: Fields) {
-    word(b"time");
-    numbers(asked);
+fn time(rt: &impl Print, asked: Fields) {
+    word(rt, b"time");
+    numbers(rt, asked);
     let made = TimeOfDay::made(asked);
     match made {
-        Made::Time(moment) => number(moment.milliseconds as u64),
-        Made::BadMillisecond => word(b" refused"),
-        Made::BadSecond => word(b" refused"),
-        Made::BadMinute => word(b" refused"),
-        Made::BadHour => word(b" refused"),
+        Made::Time(moment) => number(rt, moment.milliseconds as u64),
+        Made::BadMillisecond => word(rt, b" refused"),
+        Made::BadSecond => word(rt, b" refused"),
+        Made::BadMinute => word(rt, b" refused"),
+        Made::BadHour => word(rt, b" refused"),
     }
-    end();
+    end(rt);
 }
 
 // A time of day in milliseconds, and its hour, minute, second and millisecond.
-fn told(time: TimeOfDay) {
-    word(b"fields");
-    number(time.milliseconds as u64);
-    numbers(time.fields());
-    end();
+fn told(rt: &impl Print, time: TimeOfDay) {
+    word(rt, b"fields");
+    number(rt, time.milliseconds as u64);
+    numbers(rt, time.fields());
+    end(rt);
 }
 
 // When an order for that time is first carried out.
@@ -108,12 +105,12 @@ fn first(asked: Fields) -> First {
 }
 
 // The clock, the time of an absolute order, and its first delay. The interval is 1, so that it shows where the time is not looked at.
-fn delay(clock: TimeOfDay, asked: Fields) {
-    word(b"delay");
-    number(clock.milliseconds as u64);
-    numbers(asked);
-    number(orders::first_delay(clock, 1, first(asked)) as u64);
-    end();
+fn delay(rt: &impl Print, clock: TimeOfDay, asked: Fields) {
+    word(rt, b"delay");
+    number(rt, clock.milliseconds as u64);
+    numbers(rt, asked);
+    number(rt, orders::first_delay(clock, 1, first(asked)) as u64);
+    end(rt);
 }
 
 // NP 1, four order places, card 8, nobody privileged and a pool of four bytes.
@@ -132,13 +129,16 @@ fn plant(lowest: u16, processes: u16, scheduler: u8, clock: TimeOfDay) -> Config
 }
 
 // L, P and the scheduler's level, and whether the configuration is good.
-fn config(lowest: u16, processes: u16, scheduler: u8) {
-    word(b"config");
-    number(lowest as u64);
-    number(processes as u64);
-    number(scheduler as u64);
-    flag(plant(lowest, processes, scheduler, TimeOfDay::MIDNIGHT).good());
-    end();
+fn config(rt: &impl Print, lowest: u16, processes: u16, scheduler: u8) {
+    word(rt, b"config");
+    number(rt, lowest as u64);
+    number(rt, processes as u64);
+    number(rt, scheduler as u64);
+    flag(
+        rt,
+        plant(lowest, processes, scheduler, TimeOfDay::MIDNIGHT).good(),
+    );
+    end(rt);
 }
 
 // Levels 2 and 3, of which 2 is started and may call.
@@ -148,9 +148,9 @@ fn started(clock: TimeOfDay) -> Table {
 }
 
 // The number of an answer.
-fn answer(outcome: Outcome) {
+fn answer(rt: &impl Print, outcome: Outcome) {
     let answer = outcome.answer;
-    number(answer.number() as u64);
+    number(rt, answer.number() as u64);
 }
 
 // A relative order of level 2 for level 3.
@@ -168,18 +168,18 @@ fn schedule(table: Table, to: u32) -> Outcome {
 }
 
 // The clock and `to` of a relative order, how many orders stand then, and when the first is due.
-fn due(clock: TimeOfDay, to: u32) {
+fn due(rt: &impl Print, clock: TimeOfDay, to: u32) {
     let outcome = schedule(started(clock), to);
     let table = outcome.table;
     let orders = table.orders;
     let order = orders.places[0];
     let moment = order.due;
-    word(b"due");
-    number(clock.milliseconds as u64);
-    number(to as u64);
-    number(orders.count as u64);
-    number(moment.milliseconds as u64);
-    end();
+    word(rt, b"due");
+    number(rt, clock.milliseconds as u64);
+    number(rt, to as u64);
+    number(rt, orders.count as u64);
+    number(rt, moment.milliseconds as u64);
+    end(rt);
 }
 
 // A message of level 2 for level 3, with ALWAYS.
@@ -188,23 +188,23 @@ fn send(table: Table) -> Outcome {
 }
 
 // Two messages for a buffer of one place.
-fn second_always() {
+fn second_always(rt: &impl Print) {
     let first = send(started(TimeOfDay::MIDNIGHT));
     let second = send(first.table);
-    word(b"always");
-    answer(first);
-    answer(second);
-    end();
+    word(rt, b"always");
+    answer(rt, first);
+    answer(rt, second);
+    end(rt);
 }
 
 // An order of level 2, cancelled as if it were level 3's.
-fn wrong_sender() {
+fn wrong_sender(rt: &impl Print) {
     let entered = schedule(started(TimeOfDay::MIDNIGHT), 5);
     let cancelled = timer_calls::cancel_schedule(entered.table, 2, 3, 3);
-    word(b"cancel");
-    answer(entered);
-    answer(cancelled);
-    end();
+    word(rt, b"cancel");
+    answer(rt, entered);
+    answer(rt, cancelled);
+    end(rt);
 }
 
 // Level 2 has called INITPOOL.
@@ -213,29 +213,29 @@ fn begun() -> Table {
     outcome.table
 }
 
-fn four(bytes: [u8; 4]) {
-    number(bytes[0] as u64);
-    number(bytes[1] as u64);
-    number(bytes[2] as u64);
-    number(bytes[3] as u64);
+fn four(rt: &impl Print, bytes: [u8; 4]) {
+    number(rt, bytes[0] as u64);
+    number(rt, bytes[1] as u64);
+    number(rt, bytes[2] as u64);
+    number(rt, bytes[3] as u64);
 }
 
 // Two bytes put into the middle of the pool, and all four got: the answers, and what the caller's buffer holds.
-fn put_and_get() {
+fn put_and_get(rt: &impl Print) {
     let mut pool: [u8; 4] = [0; 4];
     let mut buffer: [u8; 4] = [9; 4];
     let given = [7, 8];
     let put = pool_calls::put_pool(begun(), &mut pool, 2, 1, 2, &given);
     let got = pool_calls::get_pool(put.table, &pool, 2, 0, 4, &mut buffer);
-    word(b"put");
-    answer(put);
-    answer(got);
-    four(buffer);
-    end();
+    word(rt, b"put");
+    answer(rt, put);
+    answer(rt, got);
+    four(rt, buffer);
+    end(rt);
 }
 
 // A part that begins at an offset, as long as the buffer, of a pool that is lent shorter by so many bytes: the answer, and the buffer.
-fn get_at(offset: u16, count: u16, missing: usize) {
+fn get_at(rt: &impl Print, offset: u16, count: u16, missing: usize) {
     let pool: [u8; 4] = [5; 4];
     let lent: &[u8] = &pool;
     let mut buffer: [u8; 4] = [9; 4];
@@ -247,10 +247,10 @@ fn get_at(offset: u16, count: u16, missing: usize) {
         count,
         &mut buffer,
     );
-    word(b"get");
-    answer(got);
-    four(buffer);
-    end();
+    word(rt, b"get");
+    answer(rt, got);
+    four(rt, buffer);
+    end(rt);
 }
 
 // Level 2 holds semaphore 7, and level 3 may call.
@@ -261,67 +261,67 @@ fn held() -> Table {
 }
 
 // A number that a level releases, the answer, and the holder where one is told.
-fn release(caller: u8, asked: u16) {
+fn release(rt: &impl Print, caller: u8, asked: u16) {
     let outcome = semaphore_calls::release(held(), caller, asked);
     let shown = outcome.shown;
-    word(b"release");
-    number(caller as u64);
-    number(asked as u64);
-    answer(outcome);
+    word(rt, b"release");
+    number(rt, caller as u64);
+    number(rt, asked as u64);
+    answer(rt, outcome);
     match shown {
-        Shown::Number => number(outcome.number),
-        Shown::Nothing => word(b" nothing"),
-        Shown::Message => word(b" message"),
-        Shown::Inputs => word(b" inputs"),
-        Shown::Data => word(b" data"),
+        Shown::Number => number(rt, outcome.number),
+        Shown::Nothing => word(rt, b" nothing"),
+        Shown::Message => word(rt, b" message"),
+        Shown::Inputs => word(rt, b" inputs"),
+        Shown::Data => word(rt, b" data"),
     }
-    end();
+    end(rt);
 }
 
 fn at(milliseconds: u32) -> TimeOfDay {
     TimeOfDay { milliseconds }
 }
 
-fn main() {
-    usable(31);
-    usable(50);
-    usable(51);
-    usable(95);
-    usable(32);
-    usable(49);
-    usable(96);
-    usable(128);
-    interval(0);
-    interval(86_400_000);
-    interval(86_399_999);
-    delay(at(1_000), fields(0, 0, 1, 0));
-    due(at(86_399_999), 1);
-    time(fields(23, 59, 59, 999));
-    time(fields(23, 59, 59, 1_000));
-    told(at(0));
-    told(at(999));
-    told(at(1_000));
-    told(at(59_999));
-    told(at(60_000));
-    told(at(3_599_999));
-    told(at(3_600_000));
-    told(at(45_296_789));
-    told(at(86_399_999));
-    told(at(86_400_000));
-    told(at(4_294_967_295));
-    config(1, 11, 0);
-    config(2, 11, 0);
-    second_always();
-    wrong_sender();
-    put_and_get();
-    get_at(0, 4, 0);
-    get_at(0, 3, 0);
-    get_at(1, 4, 0);
-    get_at(65_535, 4, 0);
-    get_at(0, 4, 1);
-    release(3, 7);
-    release(3, 8);
-    release(3, 49);
-    release(3, 65_535);
-    release(2, 7);
+fn main(rt: HostRuntime) {
+    usable(&rt, 31);
+    usable(&rt, 50);
+    usable(&rt, 51);
+    usable(&rt, 95);
+    usable(&rt, 32);
+    usable(&rt, 49);
+    usable(&rt, 96);
+    usable(&rt, 128);
+    interval(&rt, 0);
+    interval(&rt, 86_400_000);
+    interval(&rt, 86_399_999);
+    delay(&rt, at(1_000), fields(0, 0, 1, 0));
+    due(&rt, at(86_399_999), 1);
+    time(&rt, fields(23, 59, 59, 999));
+    time(&rt, fields(23, 59, 59, 1_000));
+    told(&rt, at(0));
+    told(&rt, at(999));
+    told(&rt, at(1_000));
+    told(&rt, at(59_999));
+    told(&rt, at(60_000));
+    told(&rt, at(3_599_999));
+    told(&rt, at(3_600_000));
+    told(&rt, at(45_296_789));
+    told(&rt, at(86_399_999));
+    told(&rt, at(86_400_000));
+    told(&rt, at(4_294_967_295));
+    config(&rt, 1, 11, 0);
+    config(&rt, 2, 11, 0);
+    second_always(&rt);
+    wrong_sender(&rt);
+    put_and_get(&rt);
+    get_at(&rt, 0, 4, 0);
+    get_at(&rt, 0, 3, 0);
+    get_at(&rt, 1, 4, 0);
+    get_at(&rt, 65_535, 4, 0);
+    get_at(&rt, 0, 4, 1);
+    release(&rt, 3, 7);
+    release(&rt, 3, 8);
+    release(&rt, 3, 49);
+    release(&rt, 3, 65_535);
+    release(&rt, 2, 7);
 }

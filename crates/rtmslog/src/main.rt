@@ -3,6 +3,8 @@
 
 ghost use Rattle.std.specs.Prelude.{◌≡◌, ◌+◌, ◌≤◌, length};
 
+use std::io::Read;
+
 // What one read brought.
 #[derive(Clone, Copy)]
 struct Brought {
@@ -18,21 +20,24 @@ struct Input {
 }
 
 // More of the input, behind what is there.
-fn read_more(input: &mut [u8], at: usize) -> Brought
+fn read_more<R: Read>(reader: &mut R, input: &mut [u8], at: usize) -> Brought
     requires { at ≤ length input.old }
     ensures { (at + result.count ≤ length input.old) × (length input.new ≡ length input.old) }
 {
-    let part = &mut input[at..];
-    let got = libc::read(libc::STDIN_FILENO, part);
-    let count = io::count(got, part);
-    Brought {
-        count,
-        failed: got < 0,
+    match reader.read(&mut input[at..]) {
+        Ok(count) => Brought {
+            count,
+            failed: false,
+        },
+        Err(_) => Brought {
+            count: 0,
+            failed: true,
+        },
     }
 }
 
 // The input to its end, or until the buffer is full.
-fn read_all(input: &mut [u8]) -> Input
+fn read_all<R: Read>(reader: &mut R, input: &mut [u8]) -> Input
     requires { length input.old ≤ 65521 }
     ensures { result.length ≤ length input.new }
 {
@@ -40,7 +45,7 @@ fn read_all(input: &mut [u8]) -> Input
     let mut failed = false;
     let mut more = true;
     while more {
-        let brought = read_more(input, length);
+        let brought = read_more(reader, input, length);
         length += brought.count;
         failed = brought.failed;
         more = brought.count != 0;
@@ -48,15 +53,16 @@ fn read_all(input: &mut [u8]) -> Input
     Input { length, failed }
 }
 
-fn main() {
+fn main(rt: HostRuntime) {
     // One byte more than the largest log has is enough to know that an input is too long.
     let mut space: [u8; 65_521] = [0; 65_521];
     let mut room = printing::room();
-    let read = read_all(&mut space);
+    let mut reader = rt.reader();
+    let read = read_all(&mut reader, &mut space);
     if read.failed {
         return;
     }
     let length = read.length;
     let input: &[u8] = &space;
-    printing::print(&input[0..length], &mut room);
+    printing::print(&rt, &input[0..length], &mut room);
 }

@@ -71,7 +71,7 @@ pub struct Outcome {
 }
 
 // What an outcome says, without the table that it leaves.
-#[derive(Drop)]
+#[derive(Clone, Copy)]
 pub struct Said {
     pub answer: Answer,
     pub shown: Shown,
