@@ -3,4 +3,3 @@ pub mod Places
 pub mod FirstInFirstOut
 pub mod Telling
 pub mod Delivering
-pub mod RecordInMemory

@@ -1,0 +1,7 @@
+use Rattle.process.specs.Process.{handed_of}
+use borrow.Author.Rules.{rules}
+use Rattle.process.proofs.Process.handed.Goals as goal
+
+pub returns : goal.returns
+unfolding handed_of
+returns c = rw c.tell-telling.ensures

@@ -1,0 +1,11 @@
+use Rattle.process.specs.Process.{moved_of}
+use borrow.Author.Rules.{rules}
+use Rattle.process.proofs.Process.moved.Goals as goal
+
+pub returns-in-To : goal.returns-in-To
+unfolding moved_of
+returns-in-To c = rw (← c.next-next.ensures, c.in-To.is)
+
+pub returns-in-Nowhere : goal.returns-in-Nowhere
+unfolding moved_of
+returns-in-Nowhere c = rw (← c.next-next.ensures, c.in-Nowhere.is)

@@ -1,0 +1,7 @@
+use borrow.Author.Rules.{rules}
+use Rattle.process.specs.Process.{taken_of}
+use Rattle.process.proofs.Process.taken.Goals as goal
+
+pub returns : goal.returns
+unfolding taken_of
+returns c = rw (c.tell-telling.ensures, c.oldest-message.ensures, c.rest-rest.ensures)
