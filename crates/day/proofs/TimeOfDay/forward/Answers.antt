@@ -1,0 +1,9 @@
+use mathlib.Core.Path.{ap}
+use native.Mathlib.Omega.{arith}
+use Rattle.day.specs.TimeOfDay.{at, forward_of}
+use borrow.Author.Rules.{rules}
+use Rattle.day.proofs.TimeOfDay.forward.Goals as goal
+
+pub returns : goal.returns
+unfolding forward_of
+returns c = ap at (omega arith)

@@ -1,0 +1,6 @@
+use borrow.Author.Rules.{rules}
+use Rattle.inputs.proofs.Sets.{except_below}
+use Rattle.inputs.proofs.InputSet.run.Goals as goal
+
+pub returns : goal.returns
+returns c = rw (c.except.ensures, c.below-2.ensures, c.below.ensures) (except_below _ _)

@@ -1,0 +1,7 @@
+use mathlib.Core.Path.{◌∙◌}
+use borrow.Author.Rules.{rules}
+use Rattle.inputs.proofs.Sets.{run_single}
+use Rattle.inputs.proofs.single.Goals as goal
+
+pub returns : goal.returns
+returns c = c.run.ensures ∙ run_single _
