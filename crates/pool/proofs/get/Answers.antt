@@ -15,10 +15,10 @@ within : (c : Then-lies)
 within c = sym c.lies.ensures ∙ c.if-lies.true
 
 pub overflow_add-offset : goal.overflow_add-offset
-overflow_add-offset c = omega (arith, leb-true, within c)
+overflow_add-offset c = omega (arith, leb-true, within (goal.at.overflow_add-offset c).Then-lies)
 
 pub slice_bounds-put-end : goal.slice_bounds-put-end
-slice_bounds-put-end c = omega (arith, leb-true, within c)
+slice_bounds-put-end c = omega (arith, leb-true, within (goal.at.slice_bounds-put-end c).Then-lies)
 
 pub returns-then-lies : goal.returns-then-lies
 returns-then-lies c =

@@ -12,7 +12,7 @@ use Rattle.inputs.proofs.InputSet.next.Given as goal
 
 -- the lowest input is the lowest from word `at` on
 abbrev pub invariant-loop-at : goal.invariant-loop-at
-invariant-loop-at l = (l.at ≤ 4) × (first_of (rest_of (record { l.words = l.words }) l.at) ≡ next_of (record { l.words = l.words }))
+invariant-loop-at l = (l.at ≤ 4) × (first_of (rest_of (record { words = l.words }) l.at) ≡ next_of (record { words = l.words }))
 
 abbrev pub decreases-loop-at : goal.decreases-loop-at
 decreases-loop-at l = 4 - l.at

@@ -15,7 +15,7 @@ pub overflow_cast-number : goal.overflow_cast-number
 overflow_cast-number c = omega (arith, below c)
 
 pub bounds-holders-at : goal.bounds-holders-at
-bounds-holders-at c = below c
+bounds-holders-at c = below (goal.at.bounds-holders-at c).After-queue-1
 
 pub returns-then-leaving : goal.returns-then-leaving
 unfolding release_of
@@ -23,7 +23,7 @@ returns-then-leaving c =
     rw (← c.holds.ensures, c.if-holds.true, ← c.leaving-leaving.ensures, c.if-leaving.true)
 
 pub bounds-holders-at-then-holds : goal.bounds-holders-at-then-holds
-bounds-holders-at-then-holds c = below c
+bounds-holders-at-then-holds c = below (goal.at.bounds-holders-at-then-holds c).After-queue-1
 
 pub returns-then-holds : goal.returns-then-holds
 unfolding release_of

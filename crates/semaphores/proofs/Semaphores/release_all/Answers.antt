@@ -10,11 +10,9 @@ use Rattle.semaphores.specs.declared.ReleaseAll.{ReleaseAll}
 use Rattle.semaphores.specs.declared.queues.Levels.{Levels}
 use Rattle.semaphores.specs.Semaphores.{holder_of, also_of}
 use Rattle.semaphores.proofs.ReleasingAll.{also_passed, finished_of, finished_none, finished_turn, finished_all}
+use Rattle.semaphores.proofs.Semaphores.release_all.Invariants.{so_far}
+use Rattle.semaphores.proofs.Semaphores.release_all.Goals.{then-semaphores-number, else-semaphores-number}
 use Rattle.semaphores.proofs.Semaphores.release_all.Goals as goal
-
--- as far as the numbers have been released
-abbrev so_far : Levels → Semaphores → ReleaseAll
-so_far woken semaphores = record { woken = woken; semaphores = semaphores }
 
 pub loop-number-init : goal.loop-number-init
 loop-number-init c = (omega arith, refl)
@@ -28,10 +26,11 @@ loop-number-preserved c =
     let all : ReleaseAll = so_far loop.woken loop.semaphores in
     let left : suc (96 - (number + 1)) ≡ 96 - number = omega arith in
     let turned : so_far c.if-semaphores-number.woken c.if-semaphores-number.semaphores ≡ also_of all level number =
-    ⊎_elim
-    (λ w. ap₂ so_far w.4 w.5 ∙ w.1.ensures)
-    (λ w. ap₂ so_far w.1 w.2 ∙ sym (also_passed all level number (ne_eqb _ _ w.0.left)))
-    c.if-semaphores-number.branch in (
+    elim c.if-semaphores-number.branch [
+      then-semaphores-number w ↦ ap₂ so_far w.woken-is w.semaphores-is ∙ w.also-all.ensures
+      | else-semaphores-number w ↦
+        ap₂ so_far w.woken-is w.semaphores-is ∙ sym (also_passed all level number (ne_eqb _ _ w.if-semaphores-number.false))
+    ] in (
       omega arith,
       rw (turned, add-one)
           (sym (finished_turn (96 - suc number) number level all) ∙ ap (λ (many : ℕ). finished_of many number level all) (rw add-one at left) ∙ loop.invariant.1),

@@ -12,6 +12,10 @@ use Rattle.semaphores.specs.Semaphores.{holder_of, also_of}
 use Rattle.semaphores.proofs.ReleasingAll.{also_passed, finished_of, finished_none, finished_turn, finished_all}
 use Rattle.semaphores.proofs.Semaphores.release_all.Given as goal
 
+-- as far as the numbers have been released
+abbrev pub so_far : Levels → Semaphores → ReleaseAll
+so_far woken semaphores = record { woken = woken; semaphores = semaphores }
+
 -- the numbers that are left lead from here to where all lead from the start
 abbrev pub invariant-loop-number : goal.invariant-loop-number
 invariant-loop-number l =

@@ -13,10 +13,10 @@ known : (c : After-holders-1) → usable_of c.args.number ≡ true
 known c = sym c.usable.ensures ∙ c.if-usable.true
 
 pub bounds-holders-at : goal.bounds-holders-at
-bounds-holders-at c = usable_below _ (known c)
+bounds-holders-at c = usable_below _ (sym c.usable.ensures ∙ c.if-usable.true)
 
 pub bounds-holders-at-then-holder : goal.bounds-holders-at-then-holder
-bounds-holders-at-then-holder c = usable_below _ (known c)
+bounds-holders-at-then-holder c = usable_below _ (known (goal.at.bounds-holders-at-then-holder c).After-holders-1)
 
 pub returns-then-holder : goal.returns-then-holder
 unfolding request_of holder_of
@@ -33,7 +33,7 @@ returns-then-holder-level c =
     rw (known (goal.at.returns-then-holder-level c).After-holders-1, ne_eqb _ _ c.if-holder.false, eq-eqb _ _ own)
 
 pub overflow_cast-number : goal.overflow_cast-number
-overflow_cast-number c = omega (arith, usable_below _ (known c))
+overflow_cast-number c = omega (arith, usable_below _ (known (goal.at.overflow_cast-number c).After-holders-1))
 
 pub returns-then-usable : goal.returns-then-usable
 unfolding request_of holder_of
