@@ -1,0 +1,7 @@
+use Rattle.table.specs.Table.{refused_of}
+use borrow.Author.Rules.{rules}
+use Rattle.table.proofs.Table.refused.Goals as goal
+
+pub returns : goal.returns
+unfolding refused_of
+returns c = rw (c.empty.ensures, c.none.ensures)

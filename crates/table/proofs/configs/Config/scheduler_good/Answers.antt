@@ -1,0 +1,5 @@
+use borrow.Author.Rules.{rules}
+use Rattle.table.proofs.configs.Config.scheduler_good.Goals as goal
+
+pub returns : goal.returns
+returns c = rw c.has_level-taken.ensures

@@ -1,0 +1,20 @@
+use mathlib.Core.Path.{◌≡◌, refl, sym}
+use Prim.Native.Nat.{◌≤◌, ◌-◌}
+use native.Mathlib.Omega.{arith}
+use lib.ListN.{get_or}
+use Rattle.common.specs.Every.{every_below}
+use Rattle.common.proofs.Every.{every_turn}
+use Rattle.table.specs.Sound.{holder_sound, holders_sound}
+use borrow.Author.Rules.{rules}
+use Rattle.table.proofs.soundness.holders_sound.Goals as goal
+
+pub loop-number-init : goal.loop-number-init
+unfolding every_below
+loop-number-init c = (omega arith, refl)
+
+pub loop-number-preserved : goal.loop-number-preserved
+loop-number-preserved c = (omega arith, rw (c.holder_sound-all.ensures, c.loop-number.invariant.1) (sym (every_turn _ _)))
+
+pub returns : goal.returns
+unfolding holders_sound
+returns c = let last : c.loop-number.number ≡ 96 = omega arith in rw (c.loop-number.invariant.1, last)

@@ -1,0 +1,5 @@
+use borrow.Author.Rules.{rules}
+use Rattle.table.proofs.soundness.length_sound.Goals as goal
+
+pub returns : goal.returns
+returns c = rw (c.has_level-configured.ensures, c.length_within.ensures)

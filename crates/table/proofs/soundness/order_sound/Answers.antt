@@ -1,0 +1,7 @@
+use Rattle.table.specs.Sound.{order_sound}
+use borrow.Author.Rules.{rules}
+use Rattle.table.proofs.soundness.order_sound.Goals as goal
+
+pub returns : goal.returns
+unfolding order_sound
+returns c = rw (c.has_level.ensures, c.has_level-2.ensures)

@@ -1,0 +1,15 @@
+use mathlib.Core.Path.{◌≡◌, refl, sym}
+use Prim.Native.Nat.{◌≤◌, ◌-◌, min}
+use native.Mathlib.Omega.{arith}
+use lib.ListN.{get_or}
+use Rattle.common.specs.Every.{every_below}
+use Rattle.common.proofs.Every.{every_turn}
+use Rattle.table.specs.Sound.{no_order, order_sound, orders_sound}
+use borrow.Author.Rules.{rules}
+use Rattle.table.proofs.soundness.orders_sound.Given as goal
+
+abbrev pub invariant-loop-at : goal.invariant-loop-at
+invariant-loop-at l = (l.at ≤ l.count) × (l.all ≡ every_below l.at (λ i. order_sound l.config (get_or l.places i no_order)))
+
+abbrev pub decreases-loop-at : goal.decreases-loop-at
+decreases-loop-at l = l.count - l.at

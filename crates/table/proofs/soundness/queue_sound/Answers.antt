@@ -1,0 +1,21 @@
+use mathlib.Core.Path.{◌≡◌, refl, sym}
+use Prim.Native.Nat.{◌≤◌, ◌-◌, min}
+use native.Mathlib.Omega.{arith}
+use lib.ListN.{get_or}
+use Rattle.common.specs.Every.{every_below}
+use Rattle.common.proofs.Every.{every_turn}
+use Rattle.table.specs.Sound.{no_waiter, waiter_sound, queue_sound}
+use borrow.Author.Rules.{rules}
+use Rattle.table.proofs.soundness.queue_sound.Goals as goal
+
+pub loop-at-init : goal.loop-at-init
+unfolding every_below
+loop-at-init c = (omega arith, refl)
+
+pub loop-at-preserved : goal.loop-at-preserved
+loop-at-preserved c = (omega arith, rw (c.waiter_sound-all.ensures, c.loop-at.invariant.1) (sym (every_turn _ _)))
+
+pub returns : goal.returns
+unfolding queue_sound
+returns c = let last : c.loop-at.at ≡ min c.args.queue.count 12 = omega (arith, c.least-count.ensures) in
+    rw (c.loop-at.invariant.1, last)
