@@ -1,0 +1,30 @@
+use mathlib.Core.Path.{◌≡◌, ◌∙◌, ap, sym}
+use native.Mathlib.Omega.{arith}
+use borrow.Author.Rules.{rules}
+use Rattle.process.specs.declared.Process.{Process}
+use Rattle.calls.specs.Levels.{process_of}
+use Rattle.calls.proofs.Obeying.{outcome_alone, refused_by, passed_all}
+use Rattle.interrupts.specs.Interrupts.{input_verdict, disable_of}
+use Rattle.interrupts.proofs.Fitting.{input_fits}
+use Rattle.interrupts.proofs.disable.Goals.{After-input_checked-verdict}
+use Rattle.interrupts.proofs.disable.Goals as goal
+
+-- the checks are made on the caller's record
+seen : (c : After-input_checked-verdict) → c.input_checked-verdict.result ≡ input_verdict c.args.table.config (process_of c.args.table c.args.caller) c.args.caller c.args.input
+seen c = c.input_checked-verdict.ensures ∙ ap (λ (p : Process). input_verdict c.args.table.config p c.args.caller c.args.input) c.process_at-process.ensures
+
+pub overflow_cast-input : goal.overflow_cast-input
+overflow_cast-input c =
+    let asked = c.args in
+    omega (arith, input_fits asked.table.config (process_of asked.table asked.caller) asked.caller asked.input (sym (seen (goal.at.overflow_cast-input c).After-input_checked-verdict) ∙ c.in-Passed.is))
+
+pub returns-in-Refused : goal.returns-in-Refused
+unfolding disable_of
+returns-in-Refused c = refused_by _ _ _ _ _ c.refused.ensures (sym (seen (goal.at.returns-in-Refused c).After-input_checked-verdict) ∙ c.in-Refused.is)
+
+pub returns-in-Passed : goal.returns-in-Passed
+unfolding disable_of
+returns-in-Passed c =
+    passed_all _ _ _ _
+    (c.answered.ensures ∙ rw (c.none.ensures, outcome_alone, c.remove-mask.ensures))
+    (sym (seen (goal.at.returns-in-Passed c).After-input_checked-verdict) ∙ c.in-Passed.is)

@@ -1,0 +1,24 @@
+use mathlib.Core.Path.{◌≡◌, ◌∙◌}
+use native.Mathlib.Omega.{arith}
+use borrow.Author.Rules.{rules}
+use lib.ListN.{length}
+use Rattle.common.proofs.Lists.{of_map}
+use Rattle.pooling.proofs.Deciding.{check_all}
+use Rattle.pooling.proofs.pool_check.Goals.{Start}
+use Rattle.pooling.proofs.pool_check.Goals as goal
+
+whole : (c : Start) → length c.args.table.processes ≡ 12
+whole c = search (rules, of_map)
+
+pub offset_bounds-after-at : goal.offset_bounds-after-at
+offset_bounds-after-at c = omega (arith, c.least-at.ensures)
+
+pub bounds-after-at : goal.bounds-after-at
+bounds-after-at c = omega (arith, c.least-at.ensures, whole (goal.at.bounds-after-at c).Start)
+
+pub returns : goal.returns
+returns c =
+    let made = c in
+    let start = made in
+    c.told.ensures
+    ∙ rw (made.stating-decision.ensures, made.least-at.ensures) (check_all start.args.table start.args.caller _ (whole (goal.at.returns c).Start) start.args.stated)

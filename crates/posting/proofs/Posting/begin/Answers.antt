@@ -1,0 +1,7 @@
+use Rattle.posting.specs.Posting.{begin_of}
+use borrow.Author.Rules.{rules}
+use Rattle.posting.proofs.Posting.begin.Goals as goal
+
+pub returns : goal.returns
+unfolding begin_of
+returns c = rw c.none.ensures

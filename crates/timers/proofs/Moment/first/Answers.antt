@@ -1,0 +1,11 @@
+use borrow.Author.Rules.{rules}
+use Rattle.timers.proofs.Moment.first.Goals as goal
+
+pub returns-in-After : goal.returns-in-After
+returns-in-After c = rw c.in-After.is
+
+pub returns-in-At : goal.returns-in-At
+returns-in-At c = rw c.in-At.is
+
+pub returns-in-Bad : goal.returns-in-Bad
+returns-in-Bad c = rw c.in-Bad.is

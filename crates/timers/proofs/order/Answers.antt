@@ -1,0 +1,5 @@
+use borrow.Author.Rules.{rules}
+use Rattle.timers.proofs.order.Goals as goal
+
+pub returns : goal.returns
+returns c = rw (c.forward-due.ensures, c.first_delay-delay.ensures, c.first-first.ensures, c.interval-every.ensures)
