@@ -19,7 +19,7 @@ use Rattle.calls.specs.Outcomes.{replied_of}
 use Rattle.holding.specs.Holding.{handover_wake, Handed, handed_at, handed_to, handed_to_of, listed_of}
 use Rattle.holding.proofs.Deciding.{given_all}
 use Rattle.holding.proofs.Handing.{handed, handed_list}
-use Rattle.holding.proofs.release.Goals.{After-given-given, Start}
+use Rattle.holding.proofs.release.Goals.{After-given-given, Start, then-level-lt12, else-level-lt12}
 use Rattle.holding.proofs.release.Goals as goal
 
 -- the arrays of processes and of levels are whole
@@ -72,12 +72,14 @@ loop-at-preserved c =
     let places : length given.result.woken.levels ≡ 12 = long (goal.at.loop-at-preserved c).After-given-given in
     let within : most.result ≤ length given.result.woken.levels = omega (arith, most.ensures) in
     let turned : c.if-level-lt12.after ≡ with_processes loop.after (handed_at processes level) =
-    ⊎_elim
-    (λ w. w.3
-    ∙ ap (λ (p : Process). with_processes loop.after (set processes level p))
-    (w.2.ensures ∙ ap (λ (p : Process). moved_of p Handover) (get_or_within processes level _ fresh_of (omega (arith, w.0.taken, loop.invariant.1)))))
-    (λ w. w.1 ∙ ap (with_processes loop.after) (sym (set_out _ _ _ (omega (arith, w.0.left, loop.invariant.1)))))
-    c.if-level-lt12.branch in
+    elim c.if-level-lt12.branch [
+      then-level-lt12 w ↦
+        w.after-is
+        ∙ ap (λ (p : Process). with_processes loop.after (set processes level p))
+        (w.moved.ensures ∙ ap (λ (p : Process). moved_of p Handover) (get_or_within processes level _ fresh_of (omega (arith, w.if-level-lt12.true, loop.invariant.1))))
+      | else-level-lt12 w ↦
+        w.after-is ∙ ap (with_processes loop.after) (sym (set_out _ _ _ (omega (arith, w.if-level-lt12.false, loop.invariant.1))))
+    ] in
     let woke : handed c.if-level-lt12.after.processes c.push-wakes.result ≡ handed_to_of (handed processes loop.wakes) level =
     ap₂ handed (ap (λ (t : Table). t.processes) turned) (c.push-wakes.ensures ∙ rw c.empty.ensures) in (
       omega (arith, test),

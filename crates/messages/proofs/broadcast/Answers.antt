@@ -24,12 +24,9 @@ use Rattle.posting.specs.Posting.{letter, begin_of, posting_of, one_of, added_of
 use Rattle.posting.proofs.Letters.{posts_begin}
 use Rattle.posting.proofs.Stepping.{step_within}
 use Rattle.messages.specs.Sending.{send_posted, broadcast_posted}
-use Rattle.messages.proofs.broadcast.Statement.{statement}
-use Rattle.messages.proofs.broadcast.Tie as tie
-
--- the message for one level more
-abbrev sending : ℕ → Condition → Message → Posting → ℕ → Posting
-sending places condition message posting level = step_of Sent places posting (letter level condition message)
+use Rattle.messages.proofs.broadcast.Invariants.{sending}
+use Rattle.messages.proofs.broadcast.Goals.{Start}
+use Rattle.messages.proofs.broadcast.Goals as goal
 
 -- the message for every configured level, one after the other
 all_sent : (config : Config) (condition : Condition) (message : Message) (processes : List Process)
@@ -44,77 +41,42 @@ sending_whole : (places : ℕ) (condition : Condition) (message : Message) (post
 unfolding step_of added_of one_of
 sending_whole places condition message posting level whole = length-set posting.processes level _ ∙ whole
 
-abbrev invariant-loop : tie.invariant-loop
-invariant-loop config condition message places posting₀ level₀ posting level =
-    (level ≤ 12)
-    × (length posting.processes ≡ 12)
-    × (fold_of (sending places condition message) posting (rising_of (12 - level) level (configured_of config))
-    ≡ fold_of (sending places condition message) posting₀ (rising_of 12 0 (configured_of config)))
-
-abbrev decreases-loop : tie.decreases-loop
-decreases-loop config condition message places posting₀ level₀ posting level = 12 - level
-
-whole : (c : tie.Start invariant-loop decreases-loop) → length c.args.processes ≡ 12
+whole : (c : Start) → length c.args.processes ≡ 12
 whole c = search (rules, of_map)
 
-loop-holds : tie.Need-loop-init invariant-loop decreases-loop
+pub loop-level-init : goal.loop-level-init
 unfolding begin_of
-loop-holds c = (omega arith, rw c.begin.ensures (whole c.before.before), refl)
+loop-level-init c = (omega arith, rw c.begin-posting.ensures (whole (goal.at.loop-level-init c).Start), refl)
 
-loop-again : tie.Need-loop-preserved invariant-loop decreases-loop
-loop-again c =
-    let start = c.before.before.before.before.before.before in
-    let loop = c.before.before.before.loop in
+pub loop-level-preserved : goal.loop-level-preserved
+loop-level-preserved c =
+    let start = c in
+    let loop = c.loop-level in
     let config = start.args.config in
-    let test = c.before.before.loop-test.true in
+    let test = c.loop-level-test.true in
     let one = sending config.places start.args.condition start.args.message loop.posting loop.level in
-    let turned : c.if1.posting ≡ pick c.before.has-level.result one loop.posting =
+    let turned : c.if-has_level.posting ≡ pick c.has_level.result one loop.posting =
     ⊎_elim
     (λ w. w.7
     ∙ rw (w.6.ensures, w.5.ensures, w.2.ensures)
     (sym (step_within Sent config.places loop.posting (letter loop.level start.args.condition start.args.message) loop.invariant.1 _ test))
     ∙ sym (ap (λ (wanted : Bool). pick wanted one loop.posting) w.0.taken))
     (λ w. w.1 ∙ sym (ap (λ (wanted : Bool). pick wanted one loop.posting) w.0.left))
-    c.if1.branch in (
+    c.if-has_level.branch in (
       omega arith,
       rw turned
-          (by_pick (λ (p : Posting). length p.processes ≡ 12) c.before.has-level.result one loop.posting
+          (by_pick (λ (p : Posting). length p.processes ≡ 12) c.has_level.result one loop.posting
           (sending_whole config.places start.args.condition start.args.message loop.posting loop.level loop.invariant.1) loop.invariant.1),
-      rw (turned, c.before.has-level.ensures)
+      rw (turned, c.has_level.ensures)
           (sym
           (rising_turn (sending config.places start.args.condition start.args.message) (configured_of config) loop.posting 12 loop.level test)
           ∙ loop.invariant.2),
     )
 
-returns : tie.Need-returns invariant-loop decreases-loop
+pub returns : goal.returns
 returns c =
-    let start = c.before.before.before.before in
-    let loop = c.before.loop in
+    let start = c in
+    let loop = c.loop-level in
     rising_end (sending start.args.config.places start.args.condition start.args.message) (configured_of start.args.config) loop.posting _ 12 loop.level
-    c.loop-test.false loop.invariant.2
-    ∙ rw c.before.before.begin.ensures (all_sent start.args.config start.args.condition start.args.message start.args.processes)
-
-pub broadcast_spec : {M : Type 1} → statement M
-broadcast_spec =
-    tie.close
-    (tie.spec
-    invariant-loop
-    decreases-loop
-    (λ c. search rules)
-    (λ c κs. search rules)
-    loop-holds
-    (λ c. search rules)
-    (λ c κs. search rules)
-    (λ c. omega arith)
-    (λ c. omega arith)
-    (λ c. omega arith)
-    (λ c κs. search rules)
-    (λ c. omega arith)
-    (λ c. omega arith)
-    (λ c. omega arith)
-    (λ c κs. search rules)
-    (λ c κs. search rules)
-    (λ c. omega arith)
-    (λ c. omega arith)
-    loop-again
-    returns)
+    c.loop-level-test.false loop.invariant.2
+    ∙ rw c.begin-posting.ensures (all_sent start.args.config start.args.condition start.args.message start.args.processes)

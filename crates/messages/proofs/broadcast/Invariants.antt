@@ -1,0 +1,41 @@
+use mathlib.Core.Logic.{⊎_elim}
+use mathlib.Core.Path.{◌≡◌, ◌∙◌, refl, ap, sym}
+use mathlib.Core.Bool.{Bool}
+use mathlib.Core.List.{List}
+use Prim.Native.Nat.{ℕ, ◌≤◌, ◌-◌}
+use native.Mathlib.Omega.{arith}
+use borrow.Author.Rules.{rules}
+use lib.ListN.{length, length-set}
+use Rattle.common.specs.Choice.{pick}
+use Rattle.common.specs.Fold.{fold_of}
+use Rattle.common.proofs.Cases.{by_pick}
+use Rattle.common.proofs.Lists.{of_map}
+use Rattle.common.proofs.Fold.{fold_map}
+use Rattle.inputs.specs.InputSet.{rising_of}
+use Rattle.inputs.proofs.Rising.{rising_turn, rising_end}
+use Rattle.process.specs.declared.Condition.{Condition}
+use Rattle.process.specs.declared.Process.{Process}
+use Rattle.process.specs.declared.buffers.Message.{Message}
+use Rattle.table.specs.declared.configs.Config.{Config}
+use Rattle.table.specs.Configuration.{configured_of}
+use Rattle.posting.specs.declared.Origin.TheVariants.{Sent}
+use Rattle.posting.specs.declared.Posting.{Posting}
+use Rattle.posting.specs.Posting.{letter, begin_of, posting_of, one_of, added_of, step_of}
+use Rattle.posting.proofs.Letters.{posts_begin}
+use Rattle.posting.proofs.Stepping.{step_within}
+use Rattle.messages.specs.Sending.{send_posted, broadcast_posted}
+use Rattle.messages.proofs.broadcast.Given as goal
+
+-- the message for one level more
+abbrev pub sending : ℕ → Condition → Message → Posting → ℕ → Posting
+sending places condition message posting level = step_of Sent places posting (letter level condition message)
+
+abbrev pub invariant-loop-level : goal.invariant-loop-level
+invariant-loop-level l =
+    (l.level ≤ 12)
+    × (length l.posting.processes ≡ 12)
+    × (fold_of (sending l.places l.condition l.message) l.posting (rising_of (12 - l.level) l.level (configured_of l.config))
+    ≡ fold_of (sending l.places l.condition l.message) l.initial.posting (rising_of 12 0 (configured_of l.config)))
+
+abbrev pub decreases-loop-level : goal.decreases-loop-level
+decreases-loop-level l = 12 - l.level

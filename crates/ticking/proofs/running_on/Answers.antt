@@ -1,0 +1,238 @@
+use mathlib.Core.Logic.{⊎_elim}
+use mathlib.Core.Path.{◌≡◌, ◌∙◌, refl, ap, ap₂, sym}
+use mathlib.Core.Bool.{Bool, true, false, ◌&&◌, ◌||◌}
+use Prim.Native.Nat.{ℕ, ◌+◌, ◌-◌, ◌*◌, ◌<◌, ◌≤◌, min}
+use native.Mathlib.Omega.{arith}
+use borrow.Author.Rules.{rules}
+use borrow.Author.Tests.{ltb-true, ltb-false, le-ltb}
+use lib.Dec.{ltb}
+use lib.ListN.{length, get_or, take, drop, length-set}
+use Rattle.common.specs.Choice.{pick}
+use Rattle.common.proofs.Cases.{by_test, by_pick, both_true, never_both}
+use Rattle.common.proofs.Lists.{of_map}
+use Rattle.orders.specs.declared.Order.{Order}
+use Rattle.orders.specs.declared.Orders.{Orders}
+use Rattle.orders.specs.Orders.{standing_of}
+use Rattle.orders.specs.Advance.{due_at, next_due, next_due_of}
+use Rattle.orders.proofs.Places.{changed_before, left_before, left_fewer, length_without_place}
+use Rattle.orders.proofs.Walks.{next_behind}
+use Rattle.posting.specs.Posting.{is_handed}
+use Rattle.process.specs.declared.Delivery.{Delivery}
+use Rattle.table.specs.Sound.{no_order}
+use Rattle.calls.specs.Outcomes.{carries_number}
+use Rattle.table.specs.Wakes.{no_wakes_of}
+use Rattle.ticking.specs.Ticking.{ticks_of}
+use Rattle.ticking.proofs.Quieting.{next_later, end_of, end_all}
+use Rattle.ticking.proofs.Moments.{end_through, at_now, orders_after, after_some, after_none, processes_after, wakes_after, length_after, served_record, served_wakes, served_quiet, unserved_record, unserved_wakes, turn_stays, turn_leaves, taken_all, through_begin, through_moment, through_end}
+use Rattle.ticking.proofs.running_on.Goals.{After-least_u32-passed, After-one_if, Else-at-standing, Start, Then-is_due-receiver}
+use Rattle.ticking.proofs.running_on.Goals as goal
+
+whole : (c : Start) → length c.args.table.processes ≡ 12
+whole c = search (rules, of_map)
+
+long : (c : Start) → length c.args.table.orders.places ≡ 64
+long c = search (rules, of_map)
+
+-- an order of the moment
+-- where it is due for a level that there is, that is one of the processes
+within : (c : Then-is_due-receiver) → (get_or c.loop-left.orders.places c.loop-left.at no_order).receiver < 12
+within c =
+    let receiver = (get_or c.loop-left.orders.places c.loop-left.at no_order).receiver in
+    ltb-true receiver 12 (both_true c.is_due-is_due.result (ltb receiver 12) c.if-is_due-receiver.true).1
+
+-- its message reaches whom it should, and wakes whom it should
+served : (c : After-one_if)
+    → let loop = c.loop-left in let places = c.args.table.config.places in let order : Order = get_or loop.orders.places loop.at no_order in
+    (c.if-is_due-receiver.processes ≡ processes_after places loop.clock order loop.processes)
+    × (c.if-is_due-receiver.wakes ≡ wakes_after places loop.clock order loop.processes loop.wakes)
+served c =
+    let loop = c.loop-left in
+    let places = c.args.table.config.places in
+    let order = get_or loop.orders.places loop.at no_order in
+    let due : (b : Bool) → c.is_due-is_due.result && ltb order.receiver 12 ≡ b → due_at loop.clock order && ltb order.receiver 12 ≡ b =
+    λ b holds. ap (λ d. d && ltb order.receiver 12) (sym c.is_due-is_due.ensures) ∙ holds in
+    ⊎_elim
+    (λ w. (
+      w.8 ∙ rw w.3.ensures (served_record places loop.clock order loop.processes _ loop.invariant.0 (due true w.0.taken)),
+      w.9 ∙ w.7.ensures ∙ rw w.3.ensures (served_wakes places loop.clock order loop.processes _ loop.invariant.0 (due true w.0.taken) loop.wakes),
+    ))
+    (λ v. ⊎_elim
+    (λ w. (
+      w.7 ∙ rw w.3.ensures (served_record places loop.clock order loop.processes _ loop.invariant.0 (due true w.0.taken)),
+      w.8
+          ∙ served_quiet places loop.clock order loop.processes _ loop.invariant.0 (due true w.0.taken) loop.wakes
+          (sym (ap (λ (d : Delivery). is_handed d.fate) w.3.ensures) ∙ sym w.5.ensures ∙ w.6.left),
+    ))
+    (λ w. (
+      w.1 ∙ unserved_record places loop.clock order loop.processes loop.invariant.0 (due false w.0.left),
+      w.2 ∙ unserved_wakes places loop.clock order loop.processes loop.invariant.0 (due false w.0.left) loop.wakes,
+    ))
+    v)
+    c.if-is_due-receiver.branch
+
+served-whole : (c : After-one_if) → length c.if-is_due-receiver.processes ≡ 12
+served-whole c =
+    let loop = c.loop-left in
+    ap length (served c).0 ∙ length_after c.args.table.config.places loop.clock (get_or loop.orders.places loop.at no_order) loop.processes ∙ loop.invariant.0
+
+few : (b : Bool) → pick b 1 0 ≤ 1
+few b = by_pick (λ n. n ≤ 1) b 1 0 (omega arith) (omega arith)
+
+-- on to the next moment
+-- a tick more is to come where no order of this one is left
+more : (c : Else-at-standing) → 0 < c.loop-left.left
+more c =
+    let loop = c.loop-left in
+    by_test (ltb 0 loop.left)
+    (λ some. ltb-true 0 loop.left some)
+    (λ none. absurd (never_both (sym (rw none) ∙ c.loop-left-test.true) (le-ltb loop.at loop.standing c.if-at-standing.false)))
+
+-- the next moment is within them
+reached : (c : After-least_u32-passed) → c.least_u32-passed.result < c.loop-left.left
+reached c = omega (arith, c.least_u32-passed.ensures, more c)
+
+-- and so many less are to come then
+fewer : (left m standing at : ℕ) → m < left → standing ≤ 64 → 65 * (left - (m + 1)) + (standing - 0) < 65 * left + (standing - at)
+fewer left m standing at within few = omega arith
+
+-- the end
+-- no tick is to come, and no order is left
+ends : (left at standing : ℕ) → ltb 0 left || ltb at standing ≡ false → (left ≤ 0) × (standing ≤ at)
+ends left at standing stops =
+    by_test (ltb 0 left)
+    (λ some. absurd (never_both (rw some) stops))
+    (λ none. (ltb-false 0 left none, ltb-false at standing (sym (rw none) ∙ stops)))
+
+pub loop-left-init : goal.loop-left-init
+unfolding next_due_of
+loop-left-init c =
+    let start = c in
+    let all : min start.args.table.orders.count 64 ≤ c.least-standing.result = omega (arith, c.least-standing.ensures) in (
+      whole (goal.at.loop-left-init c).Start,
+      long (goal.at.loop-left-init c).Start,
+      c.least-standing.ensures,
+      omega arith,
+      c.next_due-nearest.ensures ∙ ap (next_due start.args.table.clock) (sym (taken_all start.args.table.orders c.least-standing.result all)),
+      omega arith,
+      through_begin start.args.table c.least-standing.result start.args.count _ all ∙ ap (λ wakes. end_of wakes 0 (ticks_of start.args.count start.args.table)) c.none-wakes.ensures,
+    )
+
+pub overflow_cast-process : goal.overflow_cast-process
+overflow_cast-process c = omega (arith, within (goal.at.overflow_cast-process c).Then-is_due-receiver)
+
+pub offset_bounds-processes-receiver : goal.offset_bounds-processes-receiver
+offset_bounds-processes-receiver c = omega (arith, within (goal.at.offset_bounds-processes-receiver c).Then-is_due-receiver)
+
+pub bounds-processes-receiver : goal.bounds-processes-receiver
+bounds-processes-receiver c = omega (arith, within (goal.at.bounds-processes-receiver c).Then-is_due-receiver, c.loop-left.invariant.0)
+
+pub overflow_cast-processes : goal.overflow_cast-processes
+overflow_cast-processes c = omega (arith, within (goal.at.overflow_cast-processes c).Then-is_due-receiver)
+
+pub offset_bounds-processes-receiver-then-is_due-receiver : goal.offset_bounds-processes-receiver-then-is_due-receiver
+offset_bounds-processes-receiver-then-is_due-receiver c = omega (arith, within (goal.at.offset_bounds-processes-receiver-then-is_due-receiver c).Then-is_due-receiver)
+
+pub bounds-processes-receiver-then-is_due-receiver : goal.bounds-processes-receiver-then-is_due-receiver
+bounds-processes-receiver-then-is_due-receiver c = omega (arith, within (goal.at.bounds-processes-receiver-then-is_due-receiver c).Then-is_due-receiver, c.loop-left.invariant.0)
+
+pub overflow_add-carried : goal.overflow_add-carried
+overflow_add-carried c = omega (arith, c.one_if.ensures, few c.is_due-is_due.result, c.loop-left.invariant.5, c.if-at-standing.true)
+
+pub loop-left-preserved-then-onward : goal.loop-left-preserved-then-onward
+loop-left-preserved-then-onward c =
+    let one = c in
+    let loop = c.loop-left in
+    let start = c in
+    let here = c.if-at-standing.true in
+    let onward = c.onward-onward in
+    let next = onward.result.order in
+    let stands : loop.at < min loop.orders.count 64 = omega (arith, loop.invariant.2, here) in
+    let reaches = served (goal.at.loop-left-preserved-then-onward c).After-one_if in (
+      served-whole (goal.at.loop-left-preserved-then-onward c).After-one_if,
+      length-set loop.orders.places loop.at _ ∙ loop.invariant.1,
+      loop.invariant.2,
+      omega (arith, here),
+      c.least_u32-nearest.ensures
+          ∙ ap₂ min loop.invariant.4 c.until.ensures
+          ∙ sym (next_behind loop.clock (take loop.at (standing_of loop.orders)) next)
+          ∙ ap (next_due loop.clock) (sym (changed_before loop.orders loop.at loop.invariant.1 stands next)),
+      omega (arith, one.one_if.ensures, few one.is_due-is_due.result, loop.invariant.5, here),
+      rw (reaches.0, reaches.1, one.one_if.ensures, one.is_due-is_due.ensures)
+          (turn_stays start.args.table loop.left loop.clock loop.processes loop.wakes loop.orders loop.carried loop.at no_order loop.invariant.1 stands
+          onward.result onward.ensures c.if-onward.true
+          ∙ loop.invariant.6),
+    )
+
+pub loop-left-preserved-else-onward : goal.loop-left-preserved-else-onward
+loop-left-preserved-else-onward c =
+    let one = c in
+    let loop = c.loop-left in
+    let start = c in
+    let here = c.if-at-standing.true in
+    let onward = c.onward-onward in
+    let left = c.without_place-orders.ensures in
+    let stands : loop.at < min loop.orders.count 64 = omega (arith, loop.invariant.2, here) in
+    let reaches = served (goal.at.loop-left-preserved-else-onward c).After-one_if in (
+      served-whole (goal.at.loop-left-preserved-else-onward c).After-one_if,
+      ap (λ (o : Orders). length o.places) left ∙ length_without_place loop.at loop.orders,
+      ap (λ n. n - 1) loop.invariant.2 ∙ sym (ap (λ (o : Orders). min o.count 64) left ∙ left_fewer loop.orders loop.at loop.invariant.1 stands),
+      omega (arith, here),
+      loop.invariant.4
+          ∙ ap (next_due loop.clock)
+          (sym (ap (λ (o : Orders). take loop.at (standing_of o)) left ∙ left_before loop.orders loop.at loop.invariant.1 stands)),
+      omega (arith, one.one_if.ensures, few one.is_due-is_due.result, loop.invariant.5, here),
+      rw (left, reaches.0, reaches.1, one.one_if.ensures, one.is_due-is_due.ensures)
+          (turn_leaves start.args.table loop.left loop.clock loop.processes loop.wakes loop.orders loop.carried loop.at no_order loop.invariant.1 stands
+          onward.result onward.ensures c.if-onward.false
+          ∙ loop.invariant.6),
+    )
+
+pub overflow_sub-left : goal.overflow_sub-left
+overflow_sub-left c = omega (arith, more c)
+
+pub overflow_sub-nearest : goal.overflow_sub-nearest
+overflow_sub-nearest c = omega (arith, next_later c.loop-left.clock (take c.loop-left.at (standing_of c.loop-left.orders)))
+
+pub overflow_sub-left-else-at-standing : goal.overflow_sub-left-else-at-standing
+overflow_sub-left-else-at-standing c = omega (arith, reached (goal.at.overflow_sub-left-else-at-standing c).After-least_u32-passed)
+
+pub loop-left-smaller : goal.loop-left-smaller
+loop-left-smaller c = fewer c.loop-left.left c.least_u32-passed.result c.loop-left.standing c.loop-left.at (reached (goal.at.loop-left-smaller c).After-least_u32-passed) (omega (arith, c.loop-left.invariant.2))
+
+pub loop-left-preserved : goal.loop-left-preserved
+unfolding next_due
+loop-left-preserved c =
+    let loop = c.loop-left in
+    let start = c in
+    let passed = c.least_u32-passed in
+    let all : min loop.orders.count 64 ≤ loop.at = omega (arith, loop.invariant.2, c.if-at-standing.false) in
+    let near = loop.invariant.4 ∙ ap (next_due loop.clock) (taken_all loop.orders loop.at all) in
+    let within = reached (goal.at.loop-left-preserved c).After-least_u32-passed in
+    let before : passed.result < next_due loop.clock (standing_of loop.orders) = omega (arith, passed.ensures, near, next_later loop.clock (standing_of loop.orders)) in (
+      loop.invariant.0,
+      loop.invariant.1,
+      loop.invariant.2,
+      omega arith,
+      refl,
+      omega (arith, loop.invariant.5, loop.invariant.2, within),
+      rw c.forward-clock.ensures
+          (through_moment loop.orders loop.at all start.args.table loop.left loop.clock loop.processes loop.wakes loop.carried start.requires.0 start.requires.1 passed.result within before
+          ∙ loop.invariant.6),
+    )
+
+pub returns : goal.returns
+returns c =
+    let loop = c.loop-left in
+    let start = c in
+    let over = ends loop.left loop.at loop.standing c.loop-left-test.false in
+    let all : min loop.orders.count 64 ≤ loop.at = omega (arith, loop.invariant.2, over.1) in
+    let orders : c.if-carried-gt0.orders ≡ orders_after loop.carried loop.orders (standing_of loop.orders) =
+    ⊎_elim
+    (λ w. w.2 ∙ w.1.ensures ∙ after_some loop.orders loop.carried w.0.taken)
+    (λ w. w.1 ∙ after_none loop.orders loop.carried w.0.left)
+    c.if-carried-gt0.branch in
+    c.with_number.ensures
+    ∙ ap (λ o. carries_number (at_now start.args.table loop.clock loop.processes o) loop.carried loop.wakes) orders
+    ∙ through_end loop.orders loop.at all start.args.table loop.left loop.clock loop.processes loop.wakes loop.carried over.0
+    ∙ loop.invariant.6
+    ∙ end_all (ticks_of start.args.count start.args.table)
