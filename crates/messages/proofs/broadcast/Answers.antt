@@ -25,7 +25,7 @@ use Rattle.posting.proofs.Letters.{posts_begin}
 use Rattle.posting.proofs.Stepping.{step_within}
 use Rattle.messages.specs.Sending.{send_posted, broadcast_posted}
 use Rattle.messages.proofs.broadcast.Invariants.{sending}
-use Rattle.messages.proofs.broadcast.Goals.{Start}
+use Rattle.messages.proofs.broadcast.Goals.{Start, then-has_level, else-has_level}
 use Rattle.messages.proofs.broadcast.Goals as goal
 
 -- the message for every configured level, one after the other
@@ -56,13 +56,14 @@ loop-level-preserved c =
     let test = c.loop-level-test.true in
     let one = sending config.places start.args.condition start.args.message loop.posting loop.level in
     let turned : c.if-has_level.posting ≡ pick c.has_level.result one loop.posting =
-    ⊎_elim
-    (λ w. w.7
-    ∙ rw (w.6.ensures, w.5.ensures, w.2.ensures)
-    (sym (step_within Sent config.places loop.posting (letter loop.level start.args.condition start.args.message) loop.invariant.1 _ test))
-    ∙ sym (ap (λ (wanted : Bool). pick wanted one loop.posting) w.0.taken))
-    (λ w. w.1 ∙ sym (ap (λ (wanted : Bool). pick wanted one loop.posting) w.0.left))
-    c.if-has_level.branch in (
+    elim c.if-has_level.branch [
+      then-has_level w ↦
+        w.posting-is
+        ∙ rw (w.is_full.ensures, w.pushed-posting.ensures, w.delivered-delivery.ensures)
+        (sym (step_within Sent config.places loop.posting (letter loop.level start.args.condition start.args.message) loop.invariant.1 _ test))
+        ∙ sym (ap (λ (wanted : Bool). pick wanted one loop.posting) w.if-has_level.true)
+      | else-has_level w ↦ w.posting-is ∙ sym (ap (λ (wanted : Bool). pick wanted one loop.posting) w.if-has_level.false)
+    ] in (
       omega arith,
       rw turned
           (by_pick (λ (p : Posting). length p.processes ≡ 12) c.has_level.result one loop.posting
