@@ -24,7 +24,7 @@ use Rattle.table.specs.Wakes.{no_wakes_of}
 use Rattle.ticking.specs.Ticking.{ticks_of}
 use Rattle.ticking.proofs.Quieting.{next_later, end_of, end_all}
 use Rattle.ticking.proofs.Moments.{end_through, at_now, orders_after, after_some, after_none, processes_after, wakes_after, length_after, served_record, served_wakes, served_quiet, unserved_record, unserved_wakes, turn_stays, turn_leaves, taken_all, through_begin, through_moment, through_end}
-use Rattle.ticking.proofs.running_on.Goals.{After-least_u32-passed, After-one_if, Else-at-standing, Start, Then-is_due-receiver}
+use Rattle.ticking.proofs.running_on.Goals.{After-least_u32-passed, After-one_if, Start, Then-is_due-receiver, then-is_due-receiver+then-is_handed, then-is_due-receiver+else-is_handed, else-is_due-receiver, then-carried-gt0, else-carried-gt0}
 use Rattle.ticking.proofs.running_on.Goals as goal
 
 whole : (c : Start) → length c.args.table.processes ≡ 12
@@ -33,7 +33,6 @@ whole c = search (rules, of_map)
 long : (c : Start) → length c.args.table.orders.places ≡ 64
 long c = search (rules, of_map)
 
--- an order of the moment
 -- where it is due for a level that there is, that is one of the processes
 within : (c : Then-is_due-receiver) → (get_or c.loop-left.orders.places c.loop-left.at no_order).receiver < 12
 within c =
@@ -51,51 +50,52 @@ served c =
     let order = get_or loop.orders.places loop.at no_order in
     let due : (b : Bool) → c.is_due-is_due.result && ltb order.receiver 12 ≡ b → due_at loop.clock order && ltb order.receiver 12 ≡ b =
     λ b holds. ap (λ d. d && ltb order.receiver 12) (sym c.is_due-is_due.ensures) ∙ holds in
-    ⊎_elim
-    (λ w. (
-      w.8 ∙ rw w.3.ensures (served_record places loop.clock order loop.processes _ loop.invariant.0 (due true w.0.taken)),
-      w.9 ∙ w.7.ensures ∙ rw w.3.ensures (served_wakes places loop.clock order loop.processes _ loop.invariant.0 (due true w.0.taken) loop.wakes),
-    ))
-    (λ v. ⊎_elim
-    (λ w. (
-      w.7 ∙ rw w.3.ensures (served_record places loop.clock order loop.processes _ loop.invariant.0 (due true w.0.taken)),
-      w.8
-          ∙ served_quiet places loop.clock order loop.processes _ loop.invariant.0 (due true w.0.taken) loop.wakes
-          (sym (ap (λ (d : Delivery). is_handed d.fate) w.3.ensures) ∙ sym w.5.ensures ∙ w.6.left),
-    ))
-    (λ w. (
-      w.1 ∙ unserved_record places loop.clock order loop.processes loop.invariant.0 (due false w.0.left),
-      w.2 ∙ unserved_wakes places loop.clock order loop.processes loop.invariant.0 (due false w.0.left) loop.wakes,
-    ))
-    v)
-    c.if-is_due-receiver.branch
+    elim c.if-is_due-receiver.branch [
+      then-is_due-receiver+then-is_handed w ↦ (
+        w.processes-is
+            ∙ rw w.delivered-delivery.ensures (served_record places loop.clock order loop.processes _ loop.invariant.0 (due true w.if-is_due-receiver.true)),
+        w.wakes-is ∙ w.pushed-wakes.ensures
+            ∙ rw w.delivered-delivery.ensures
+            (served_wakes places loop.clock order loop.processes _ loop.invariant.0 (due true w.if-is_due-receiver.true) loop.wakes),
+      )
+      | then-is_due-receiver+else-is_handed w ↦ (
+        w.processes-is
+            ∙ rw w.delivered-delivery.ensures (served_record places loop.clock order loop.processes _ loop.invariant.0 (due true w.if-is_due-receiver.true)),
+        w.wakes-is
+            ∙ served_quiet places loop.clock order loop.processes _ loop.invariant.0 (due true w.if-is_due-receiver.true) loop.wakes
+            (sym (ap (λ (d : Delivery). is_handed d.fate) w.delivered-delivery.ensures) ∙ sym w.is_handed.ensures ∙ w.if-is_handed.false),
+      )
+      | else-is_due-receiver w ↦ (
+        w.processes-is ∙ unserved_record places loop.clock order loop.processes loop.invariant.0 (due false w.if-is_due-receiver.false),
+        w.wakes-is ∙ unserved_wakes places loop.clock order loop.processes loop.invariant.0 (due false w.if-is_due-receiver.false) loop.wakes,
+      )
+    ]
 
-served-whole : (c : After-one_if) → length c.if-is_due-receiver.processes ≡ 12
-served-whole c =
+served_whole : (c : After-one_if) → length c.if-is_due-receiver.processes ≡ 12
+served_whole c =
     let loop = c.loop-left in
     ap length (served c).0 ∙ length_after c.args.table.config.places loop.clock (get_or loop.orders.places loop.at no_order) loop.processes ∙ loop.invariant.0
 
 few : (b : Bool) → pick b 1 0 ≤ 1
 few b = by_pick (λ n. n ≤ 1) b 1 0 (omega arith) (omega arith)
 
--- on to the next moment
 -- a tick more is to come where no order of this one is left
-more : (c : Else-at-standing) → 0 < c.loop-left.left
-more c =
-    let loop = c.loop-left in
-    by_test (ltb 0 loop.left)
-    (λ some. ltb-true 0 loop.left some)
-    (λ none. absurd (never_both (sym (rw none) ∙ c.loop-left-test.true) (le-ltb loop.at loop.standing c.if-at-standing.false)))
+more : (left at standing : ℕ) → ltb 0 left || ltb at standing ≡ true → standing ≤ at → 0 < left
+more left at standing goes over =
+    by_test (ltb 0 left)
+    (λ some. ltb-true 0 left some)
+    (λ none. absurd (never_both (sym (rw none) ∙ goes) (le-ltb at standing over)))
 
 -- the next moment is within them
 reached : (c : After-least_u32-passed) → c.least_u32-passed.result < c.loop-left.left
-reached c = omega (arith, c.least_u32-passed.ensures, more c)
+reached c =
+    let loop = c.loop-left in
+    omega (arith, c.least_u32-passed.ensures, more loop.left loop.at loop.standing c.loop-left-test.true c.if-at-standing.false)
 
 -- and so many less are to come then
 fewer : (left m standing at : ℕ) → m < left → standing ≤ 64 → 65 * (left - (m + 1)) + (standing - 0) < 65 * left + (standing - at)
 fewer left m standing at within few = omega arith
 
--- the end
 -- no tick is to come, and no order is left
 ends : (left at standing : ℕ) → ltb 0 left || ltb at standing ≡ false → (left ≤ 0) × (standing ≤ at)
 ends left at standing stops =
@@ -148,7 +148,7 @@ loop-left-preserved-then-onward c =
     let next = onward.result.order in
     let stands : loop.at < min loop.orders.count 64 = omega (arith, loop.invariant.2, here) in
     let reaches = served (goal.at.loop-left-preserved-then-onward c).After-one_if in (
-      served-whole (goal.at.loop-left-preserved-then-onward c).After-one_if,
+      served_whole (goal.at.loop-left-preserved-then-onward c).After-one_if,
       length-set loop.orders.places loop.at _ ∙ loop.invariant.1,
       loop.invariant.2,
       omega (arith, here),
@@ -173,7 +173,7 @@ loop-left-preserved-else-onward c =
     let left = c.without_place-orders.ensures in
     let stands : loop.at < min loop.orders.count 64 = omega (arith, loop.invariant.2, here) in
     let reaches = served (goal.at.loop-left-preserved-else-onward c).After-one_if in (
-      served-whole (goal.at.loop-left-preserved-else-onward c).After-one_if,
+      served_whole (goal.at.loop-left-preserved-else-onward c).After-one_if,
       ap (λ (o : Orders). length o.places) left ∙ length_without_place loop.at loop.orders,
       ap (λ n. n - 1) loop.invariant.2 ∙ sym (ap (λ (o : Orders). min o.count 64) left ∙ left_fewer loop.orders loop.at loop.invariant.1 stands),
       omega (arith, here),
@@ -188,7 +188,9 @@ loop-left-preserved-else-onward c =
     )
 
 pub overflow_sub-left : goal.overflow_sub-left
-overflow_sub-left c = omega (arith, more c)
+overflow_sub-left c =
+    let loop = c.loop-left in
+    omega (arith, more loop.left loop.at loop.standing c.loop-left-test.true c.if-at-standing.false)
 
 pub overflow_sub-nearest : goal.overflow_sub-nearest
 overflow_sub-nearest c = omega (arith, next_later c.loop-left.clock (take c.loop-left.at (standing_of c.loop-left.orders)))
@@ -227,10 +229,11 @@ returns c =
     let over = ends loop.left loop.at loop.standing c.loop-left-test.false in
     let all : min loop.orders.count 64 ≤ loop.at = omega (arith, loop.invariant.2, over.1) in
     let orders : c.if-carried-gt0.orders ≡ orders_after loop.carried loop.orders (standing_of loop.orders) =
-    ⊎_elim
-    (λ w. w.2 ∙ w.1.ensures ∙ after_some loop.orders loop.carried w.0.taken)
-    (λ w. w.1 ∙ after_none loop.orders loop.carried w.0.left)
-    c.if-carried-gt0.branch in
+    elim c.if-carried-gt0.branch [
+      then-carried-gt0 w ↦
+        w.orders-is ∙ w.without_place-orders-then-carried-gt0.ensures ∙ after_some loop.orders loop.carried w.if-carried-gt0.true
+      | else-carried-gt0 w ↦ w.orders-is ∙ after_none loop.orders loop.carried w.if-carried-gt0.false
+    ] in
     c.with_number.ensures
     ∙ ap (λ o. carries_number (at_now start.args.table loop.clock loop.processes o) loop.carried loop.wakes) orders
     ∙ through_end loop.orders loop.at all start.args.table loop.left loop.clock loop.processes loop.wakes loop.carried over.0
