@@ -1,0 +1,28 @@
+use mathlib.Core.Path.{◌∙◌, sym, ap}
+use borrow.Author.Rules.{rules}
+use Rattle.table.specs.declared.Outcome.{Outcome}
+use Rattle.table.specs.Table.{refused_of}
+use Rattle.pooling.specs.Pooling.{pool_by}
+use Rattle.rtms.specs.Calls.{PUTPOOL}
+use Rattle.rtms.proofs.Guarding.{lent_sound, lent_broken}
+use Rattle.rtms.proofs.pool_calls.put_pool.Goals as goal
+
+pub returns-then-lent : goal.returns-then-lent
+returns-then-lent c =
+    let called = c in
+    let tested = called in
+    let args = tested.args in (
+      lent_sound (PUTPOOL args.caller args.offset args.count args.given.now) _ args.pool.now _ (sym tested.lent.ensures ∙ tested.if-lent.true)
+          called.put_pool.ensures.0,
+      called.put_pool.ensures.1,
+    )
+
+pub returns-else-lent : goal.returns-else-lent
+unfolding pool_by refused_of
+returns-else-lent c =
+    let tested = c in
+    let args = tested.args in (
+      lent_broken (PUTPOOL args.caller args.offset args.count args.given.now) _ args.pool.now _ (sym tested.lent.ensures ∙ tested.if-lent.false)
+          c.refused.ensures,
+      sym (ap (λ (o : Outcome). pool_by o.answer args.pool.now args.offset args.given.now) c.refused.ensures),
+    )
