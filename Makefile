@@ -11,14 +11,14 @@ LOGS ?=
 # The crates whose further must-fail edits `make edits` tries: all that have some, unless some are named.
 CRATES ?=
 
-# The verdict: every crate is proved from nothing, the must-fail edits are tried, every program is run and compared, whole listings are
-# compared with the independent model's, and the static library is called, and searched for divisions where none may be.
+# The verdict: every crate is proved, the must-fail edits are tried, every program is run and compared, whole listings are compared with the
+# independent model's, and the static library is called, and searched for divisions where none may be.
 test:
 	tools/test
 
-# While one works: only what has changed.
+# While one works: only what has changed, the lowest crates first.
 check:
-	rt check
+	rt all check
 
 # The further wrong programs, of crates/NAME/more-must-fail: make edits, or make edits CRATES='orders timers'
 edits:
@@ -26,12 +26,13 @@ edits:
 
 # A plant's morning: demo/morning.txt says what happens, and rtmslog prints what the executive answers.
 demo: model
-	rt check rtmslog
+	tools/program rtmslog
+	mkdir -p target
 	tests/target/release/logtext log < demo/morning.txt > target/morning.log
 	@echo '--- demo/morning.txt'
 	@cat demo/morning.txt
 	@echo '--- rtmslog'
-	@tools/run target/bin/rtmslog < target/morning.log
+	@crates/rtmslog/out/rtmslog < target/morning.log
 
 # The executive against the independent model, on as many logs as one likes: make fuzz COUNT=100000 SEED=1
 fuzz:
@@ -43,10 +44,10 @@ golden: model
 	cp tests/golden/batch.stdin crates/batch/stdin
 	cp tests/golden/batch.stdout crates/batch/stdout
 
-# How long listings take, the model's and ours in one run, both compiled for this machine (tools/library says how, where it is no x86-64).
+# How long listings take, the model's and ours in one run.
 bench:
 	tools/library
-	cd bench && RTMS_LIBRARY_DIR=$(CURDIR)/target/staticlib cargo run --offline --release --quiet --features in-process -- $(ROUNDS:%=--rounds %) $(LOGS:%=--logs %)
+	cd bench && RTMS_LIBRARY_DIR=$(CURDIR)/crates/exports/out cargo run --offline --release --quiet --features in-process -- $(ROUNDS:%=--rounds %) $(LOGS:%=--logs %)
 
 # The model, and the tools around it.
 model:
