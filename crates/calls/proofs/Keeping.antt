@@ -202,11 +202,11 @@ module _ (c : Config) (q : Queue) where
       by_test (configured_of c level)
       (λ configured.
       let tests : process_within c p && none_kept p && queued_as_it_waits q level p ≡ true = rw configured at sound in
-      let to-queued = both_true (process_within c p && none_kept p) (queued_as_it_waits q level p) tests in
-      let to-kept = both_true (process_within c p) (none_kept p) to-queued.0 in
-      let to-count = both_true (leb p.priority 63) (leb p.buffer.count c.places) to-kept.0 in
-      let kept = tame.kept to-count.1 to-kept.1 in
-      rw (configured, tame.priority to-count.0, kept.0, kept.1, tame.queued) to-queued.1)
+      let to_queued = both_true (process_within c p && none_kept p) (queued_as_it_waits q level p) tests in
+      let to_kept = both_true (process_within c p) (none_kept p) to_queued.0 in
+      let to_count = both_true (leb p.priority 63) (leb p.buffer.count c.places) to_kept.0 in
+      let kept = tame.kept to_count.1 to_kept.1 in
+      rw (configured, tame.priority to_count.0, kept.0, kept.1, tame.queued) to_queued.1)
       (λ other. rw other)
 
   -- sound levels stay sound where one process is changed in a tame way; there is none past the last level

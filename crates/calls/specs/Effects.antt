@@ -6,10 +6,8 @@ use Rattle.inputs.specs.InputSet.{empty_of}
 use Rattle.process.specs.declared.buffers.Message.{Message}
 use Rattle.process.specs.Messages.{zeros}
 use Rattle.table.specs.declared.answers.Answer.{Answer}
-use Rattle.table.specs.declared.answers.Answer.TheVariants as Answer
 use Rattle.table.specs.declared.wakes.Wake.{Wake}
 use Rattle.table.specs.declared.Shown.{Shown}
-use Rattle.table.specs.declared.Shown.TheVariants as Shown
 use Rattle.table.specs.declared.Outcome.{Outcome}
 use Rattle.table.specs.declared.Table.{Table}
 use Rattle.table.specs.Wakes.{wakes_of}

@@ -8,7 +8,6 @@ use Rattle.table.specs.declared.answers.Answer.{Answer}
 use Rattle.table.specs.declared.answers.Answer.TheVariants.{Ok, BufferOverflow, TimeCondition}
 use Rattle.table.specs.declared.wakes.Wakes.{Wakes}
 use Rattle.table.specs.declared.Shown.{Shown}
-use Rattle.table.specs.declared.Shown.TheVariants as Shown
 use Rattle.table.specs.declared.Outcome.{Outcome}
 use Rattle.table.specs.declared.Table.{Table}
 

@@ -68,7 +68,7 @@ stands_either level [] m stands first second = second stands
 stands_either level (x ∷ l) m stands first second =
     stands_cases level x (l ++ m) stands
     (λ here. first (rw here (stands_here level l)))
-    (λ later. stands_either level l m later (λ in-first. first (stands_later level x l in-first)) second)
+    (λ later. stands_either level l m later (λ in_first. first (stands_later level x l in_first)) second)
 
 -- what holds of the elements at the first places of an array holds of a level among these
 pub stands_taken : {A : Type 0} (f : A → ℕ) (P : ℕ → Type 0) (count : ℕ) (l : List A) (d : A) → ((i : ℕ) → i < count → P (f (get_or l i d)))
@@ -108,8 +108,8 @@ once_append (x ∷ l) m first second apart = (
   by_test (stands_in x (l ++ m))
       (λ again. absurd
       (stands_either x l m again
-      (λ in-first. never_both in-first first.0)
-      (λ in-second. never_both in-second (apart x (stands_here x l)))))
+      (λ in_first. never_both in_first first.0)
+      (λ in_second. never_both in_second (apart x (stands_here x l)))))
       (λ none. none),
   once_append l m first.1 second (λ level stands. apart level (stands_later level x l stands)),
 )
@@ -190,5 +190,5 @@ once_below (suc limit) l once below =
     let part = others_part limit l in
     let fewer : length (others limit l) ≤ limit = once_below limit (others limit l) (once_part part once)
     (λ level stands. let less : level < suc limit = below level (stands_part level part stands) in
-    let not-it : level ≡ limit → ⊥ = (λ e. never_both (rw e at stands) (others_none limit l)) in omega arith) in
+    let not_it : level ≡ limit → ⊥ = (λ e. never_both (rw e at stands) (others_none limit l)) in omega arith) in
     omega (arith, others_length limit l once)

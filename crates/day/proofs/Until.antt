@@ -27,7 +27,7 @@ module _ (clock t : TimeOfDay) where
       by_test (eqb (t.milliseconds % day) (clock.milliseconds % day))
       (λ same. let now : t.milliseconds % day ≡ clock.milliseconds % day = eqb-true _ _ same in
       or_day_none (gap_of clock t) (omega arith) ∙ omega arith)
-      (λ other. let not-now : t.milliseconds % day ≡ clock.milliseconds % day → ⊥ = eqb-false _ _ other in
+      (λ other. let not_now : t.milliseconds % day ≡ clock.milliseconds % day → ⊥ = eqb-false _ _ other in
       or_day_some (gap_of clock t) (omega arith) ∙ omega arith)
 
   -- either way

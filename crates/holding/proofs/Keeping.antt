@@ -428,7 +428,7 @@ module _ (t : Table) (steady : Steady t) where
       (λ unusable then. steady)
       (λ usable was_free then. fits_steady _ ps (held_fits t.config s ps caller number steady_fits configured ready then))
       (λ usable own then. steady)
-      (λ usable not-Free not_own then. fits_steady _ _ (joined_fits t.config s ps caller number steady_fits configured ready then))
+      (λ usable not_free not_own then. fits_steady _ _ (joined_fits t.config s ps caller number steady_fits configured ready then))
       orderly
 
   -- what a release of one number came to

@@ -12,13 +12,11 @@ use Rattle.semaphores.specs.declared.Requested.{Requested}
 use Rattle.semaphores.specs.declared.Requested.TheVariants.{Unusable, Held, Waits}
 use Rattle.semaphores.specs.declared.Released.{Released}
 use Rattle.semaphores.specs.declared.Released.TheVariants.{NotHolder, Freed, HandedTo}
-use Rattle.semaphores.specs.declared.Released.TheVariants as Released
 use Rattle.semaphores.specs.declared.Semaphores.{Semaphores}
 use Rattle.semaphores.specs.Queues.{none_of, with_of}
 use Rattle.semaphores.specs.Semaphores.{request_of as requests_of, release_of as releases_of, released_from, woken_from, release_all_of}
 use Rattle.table.specs.declared.answers.Answer.{Answer}
 use Rattle.table.specs.declared.answers.Answer.TheVariants.{Ok, ParameterError, NoSemaphoreNumber, Suspended}
-use Rattle.table.specs.declared.answers.Answer.TheVariants as Answer
 use Rattle.table.specs.declared.configs.Config.{Config}
 use Rattle.table.specs.declared.wakes.Wake.{Wake}
 use Rattle.table.specs.declared.wakes.Wakes.{Wakes}

@@ -12,7 +12,7 @@ use borrow.Author.Tests.{eq-eqb, ne_eqb}
 use Rattle.common.specs.Keep.{keep_of}
 use Rattle.common.proofs.Keep.{keep_append}
 use Rattle.day.specs.declared.TimeOfDay.{TimeOfDay}
-use Rattle.day.specs.TimeOfDay.{at, day, forward_of}
+use Rattle.day.specs.TimeOfDay.{day, forward_of}
 use Rattle.day.proofs.Forward.{forward_forward}
 use Rattle.orders.specs.declared.Order.{Order}
 use Rattle.orders.specs.declared.Onward.{Onward}

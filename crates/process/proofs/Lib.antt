@@ -3,3 +3,4 @@ pub mod Places
 pub mod FirstInFirstOut
 pub mod Telling
 pub mod Delivering
+pub mod RecordInMemory

@@ -7,7 +7,6 @@ use Rattle.process.specs.Marks.{marks_of, tell_of}
 use Rattle.process.specs.declared.states.State.{State}
 use Rattle.process.specs.declared.states.State.TheVariants.{Inactive}
 use Rattle.process.specs.declared.states.Cause.{Cause}
-use Rattle.process.specs.declared.states.Cause.TheVariants as Cause
 use Rattle.process.specs.declared.states.Next.{Next}
 use Rattle.process.specs.declared.states.Next.TheVariants.{Nowhere, To}
 use Rattle.process.specs.declared.buffers.Message.{Message}

@@ -66,8 +66,8 @@ module _ (t : Table) (caller offset count own : ℕ) (pool : List ℕ) where
   unfolding same_length within_pool
   part_lies enough all =
       let to_end = last_passed _ (within_pool t.config offset count) PoolOverflow all in
-      let to-common = last_passed _ _ PoolLengthFault to_end.0 in
-      let to_same = last_passed _ (same_length count own) DataLengthFault to-common.0 in
+      let to_common = last_passed _ _ PoolLengthFault to_end.0 in
+      let to_same = last_passed _ (same_length count own) DataLengthFault to_common.0 in
       let inside = leb-true (offset + count) t.config.pool (both_true (not (negative16 offset)) (leb (offset + count) t.config.pool) to_end.1).1 in
       let same = eqb-true count own (both_true (not (negative16 count)) (eqb count own) to_same.1).1 in
       le-leb (offset + own) (length pool) (omega (arith, inside, same, leb-true t.config.pool (length pool) enough))

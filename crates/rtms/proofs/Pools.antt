@@ -42,7 +42,7 @@ refused_pool call answer pool refused = by_put (puts_of call)
 pub lent_refusals : (call : Call) (t : Table) (pool : List ℕ) → Plain t (lent_of call t pool)
 unfolding lent_of Plain
 lent_refusals call t pool =
-    by_test (leb t.config.pool (length pool)) (λ e. rw e (refusals call t)) (λ e. rw e (λ refused not-3 not-37. refl))
+    by_test (leb t.config.pool (length pool)) (λ e. rw e (refusals call t)) (λ e. rw e (λ refused not_3 not_37. refl))
 
 -- two results for one input are equal, for these too
 pub lent_determined : (call : Call) (t : Table) (pool : List ℕ) (r s : Outcome) → r ≡ lent_answer call t pool → s ≡ lent_answer call t pool → r ≡ s

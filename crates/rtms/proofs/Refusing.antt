@@ -277,14 +277,14 @@ kind_done call t = kind_guarded (sound_of t) call t (effect_of call t) (kind_of 
 
 plain_sorted : (t : Table) (effect : Effect) → Sorted t effect → Plain t effect
 unfolding Sorted Plain
-plain_sorted t effect (inl fine) refused not-3 not-37 = absurd (never_both refused fine)
-plain_sorted t effect (inr same) refused not-3 not-37 = same.0
+plain_sorted t effect (inl fine) refused not_3 not_37 = absurd (never_both refused fine)
+plain_sorted t effect (inr same) refused not_3 not_37 = same.0
 
 plain_kind : (call : Call) (t : Table) (effect : Effect) → Kind t call effect → Plain t effect
 unfolding Plain
-plain_kind call t effect (sorted fine) refused not-3 not-37 = plain_sorted t effect fine refused not-3 not-37
-plain_kind call t effect (overflow from receiver m full) refused not-3 not-37 = absurd (not-3 (ap (λ e. number_of e.answer) full))
-plain_kind call t effect (tells from number usable not_own told) refused not-3 not-37 = absurd (not-37 (ap (λ e. number_of e.answer) told))
+plain_kind call t effect (sorted fine) refused not_3 not_37 = plain_sorted t effect fine refused not_3 not_37
+plain_kind call t effect (overflow from receiver m full) refused not_3 not_37 = absurd (not_3 (ap (λ e. number_of e.answer) full))
+plain_kind call t effect (tells from number usable not_own told) refused not_3 not_37 = absurd (not_37 (ap (λ e. number_of e.answer) told))
 
 -- a refused call leaves the table as it was and carries nothing, but for the numbers 3 and 37
 pub refusals : (call : Call) (t : Table) → Plain t (done_by call t)

@@ -79,22 +79,22 @@ module _ (t : Table) (caller number : ℕ) where
   -- what a request answers
   asked_answer : number_of (requested_of t caller number).answer ≡ requested_number (requests_of t.semaphores caller number).requested
   unfolding requested_of
-  asked_answer = by-ways (requests_of t.semaphores caller number).requested (requests_of t.semaphores caller number).semaphores
+  asked_answer = by_ways (requests_of t.semaphores caller number).requested (requests_of t.semaphores caller number).semaphores
     where
-      by-ways : (r : Requested) (s : Semaphores) → number_of (requested_by r t s caller).answer ≡ requested_number r
-      by-ways Unusable s = refl
-      by-ways Held s = refl
-      by-ways Waits s = refl
+      by_ways : (r : Requested) (s : Semaphores) → number_of (requested_by r t s caller).answer ≡ requested_number r
+      by_ways Unusable s = refl
+      by_ways Held s = refl
+      by_ways Waits s = refl
 
   -- it hands nothing over
   asked_handed : handed_levels (requested_of t caller number).wakes ≡ []
   unfolding requested_of
-  asked_handed = by-ways (requests_of t.semaphores caller number).requested (requests_of t.semaphores caller number).semaphores
+  asked_handed = by_ways (requests_of t.semaphores caller number).requested (requests_of t.semaphores caller number).semaphores
     where
-      by-ways : (r : Requested) (s : Semaphores) → handed_levels (requested_by r t s caller).wakes ≡ []
-      by-ways Unusable s = handed_none
-      by-ways Held s = handed_none
-      by-ways Waits s = handed_none
+      by_ways : (r : Requested) (s : Semaphores) → handed_levels (requested_by r t s caller).wakes ≡ []
+      by_ways Unusable s = handed_none
+      by_ways Held s = handed_none
+      by_ways Waits s = handed_none
 
   -- and leaves such semaphores
   asked_semaphores : (requested_of t caller number).table.semaphores ≡ (requests_of t.semaphores caller number).semaphores
@@ -104,29 +104,29 @@ module _ (t : Table) (caller number : ℕ) where
       (λ unusable. refl)
       (λ usable was_free. refl)
       (λ usable own. refl)
-      (λ usable not-Free not_own. refl)
+      (λ usable not_free not_own. refl)
 
   -- what a release answers
   pub gave_answer : number_of (released_of t caller number).answer ≡ released_number (releases_of t.semaphores caller number).released
   unfolding released_of
-  gave_answer = by-ways (releases_of t.semaphores caller number).released (releases_of t.semaphores caller number).semaphores
+  gave_answer = by_ways (releases_of t.semaphores caller number).released (releases_of t.semaphores caller number).semaphores
     where
-      by-ways : (r : Released) (s : Semaphores) → number_of (released_by r t s).answer ≡ released_number r
-      by-ways Released.Unusable s = refl
-      by-ways (NotHolder level) s = refl
-      by-ways Freed s = refl
-      by-ways (HandedTo level) s = refl
+      by_ways : (r : Released) (s : Semaphores) → number_of (released_by r t s).answer ≡ released_number r
+      by_ways Released.Unusable s = refl
+      by_ways (NotHolder level) s = refl
+      by_ways Freed s = refl
+      by_ways (HandedTo level) s = refl
 
   -- to whom it hands the semaphore
   gave_handed : handed_levels (released_of t caller number).wakes ≡ woken_of (releases_of t.semaphores caller number).released
   unfolding released_of
-  gave_handed = by-ways (releases_of t.semaphores caller number).released (releases_of t.semaphores caller number).semaphores
+  gave_handed = by_ways (releases_of t.semaphores caller number).released (releases_of t.semaphores caller number).semaphores
     where
-      by-ways : (r : Released) (s : Semaphores) → handed_levels (released_by r t s).wakes ≡ woken_of r
-      by-ways Released.Unusable s = handed_none
-      by-ways (NotHolder level) s = handed_none
-      by-ways Freed s = handed_none
-      by-ways (HandedTo level) s = handed_all (level ∷ [])
+      by_ways : (r : Released) (s : Semaphores) → handed_levels (released_by r t s).wakes ≡ woken_of r
+      by_ways Released.Unusable s = handed_none
+      by_ways (NotHolder level) s = handed_none
+      by_ways Freed s = handed_none
+      by_ways (HandedTo level) s = handed_all (level ∷ [])
 
   -- and the semaphores that it leaves
   gave_semaphores : (released_of t caller number).table.semaphores ≡ (releases_of t.semaphores caller number).semaphores

@@ -40,9 +40,9 @@ avoids_more n (Refused first) holds answer before other = before
 
 -- the caller's two checks refuse with 10 and 33
 pub avoids_caller : (n : ℕ) (c : Config) (p : Process) (caller : ℕ) → eqb 10 n ≡ false → eqb 33 n ≡ false → Avoids n (by_caller c p caller)
-avoids_caller n c p caller not-10 not-33 =
+avoids_caller n c p caller not_10 not_33 =
     avoids_more n (also_of Passed (configured_of c caller) NoUser) (is_of p.state Ready) NotReady
-    (avoids_more n Passed (configured_of c caller) NoUser (avoids_none n) not-10) not-33
+    (avoids_more n Passed (configured_of c caller) NoUser (avoids_none n) not_10) not_33
 
 -- what holds of every refusal with another number, and of the effect where the checks pass, holds of a call that is obeyed after its checks
 pub by_obeyed : (P : Effect → Type 0) (n : ℕ) (v : Verdict) (t : Table) (effect : Effect) → Avoids n v

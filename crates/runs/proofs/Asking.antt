@@ -106,7 +106,7 @@ module _ (number : ℕ) (s : Semaphores) (orderly : Orderly s) (caller asked : �
       (λ unusable. holds_same asks waits holds)
       (λ usable was_free. holds_also asks waits holds ∙ taken_holds less usable was_free)
       (λ usable own. holds_also asks waits holds ∙ own_holds own)
-      (λ usable not-Free not_own. rw (joined_holder number s caller asked) (holds_same asks waits holds))
+      (λ usable not_free not_own. rw (joined_holder number s caller asked) (holds_same asks waits holds))
 
   -- who waits for a number after a request: who waited for it, and the caller, if it asked for it and is answered 32
   pub request_waits : may_request s caller ≡ true
@@ -122,4 +122,4 @@ module _ (number : ℕ) (s : Semaphores) (orderly : Orderly s) (caller asked : �
       (λ unusable. waits_same asks waits)
       (λ usable was_free. rw (held_waiters number s caller asked) (waits_same asks waits))
       (λ usable own. waits_same asks waits)
-      (λ usable not-Free not_own. joined_stands may)
+      (λ usable not_free not_own. joined_stands may)

@@ -62,8 +62,8 @@ unfolding levels_for keep_of stands_in Once
 listed_apart level number other differs [] once stands = refl
 listed_apart level number other differs (w ∷ l) once stands =
     by_test (waits_for number w)
-    (λ own. let not-other : waits_for other w ≡ false = ne_eqb _ _ (λ e. differs (sym (eqb-true _ _ own) ∙ e)) in
-    rw not-other
+    (λ own. let not_other : waits_for other w ≡ false = ne_eqb _ _ (λ e. differs (sym (eqb-true _ _ own) ∙ e)) in
+    rw not_other
     (stands_cases level w.level (levels_for number l) (rw own at stands)
     (λ here. stands_no_part level (levels_part other l) (rw here at once.0))
     (λ later. listed_apart level number other differs l once.1 later)))

@@ -51,9 +51,9 @@ pub data Way (number : ℕ) (act : Act) (answer : ℕ) (handed : List ℕ) (s th
 
 -- a call that is not answered 0 is not seen to release
 refused_seen : (number : ℕ) (act : Act) (answer : ℕ) (sight : Sight) → eqb answer 0 ≡ false → released_by number act answer sight ≡ false
-refused_seen number (requests caller asked) answer sight not-0 = refl
-refused_seen number (releases caller given) answer sight not-0 = rw (not-0, and-false (eqb given number || eqb given minus_one))
-refused_seen number neither answer sight not-0 = refl
+refused_seen number (requests caller asked) answer sight not_0 = refl
+refused_seen number (releases caller given) answer sight not_0 = rw (not_0, and-false (eqb given number || eqb given minus_one))
+refused_seen number neither answer sight not_0 = refl
 
 -- a step that leaves the semaphores as they were, and is seen to
 quiet : {number : ℕ} {act : Act} {answer : ℕ} {handed : List ℕ} {s then : Semaphores} → handed ≡ [] → then ≡ s
@@ -209,21 +209,21 @@ module _ (number : ℕ) (usable : usable_of number ≡ true) (s : Semaphores) (o
       by_test (holds_of s caller given)
       (λ holds. rw (act-is, answer-is ∙ held_number s caller given holds, handed-is ∙ release_wakes s caller given holds, then_is)
       (given_turned number s orderly caller (requester_level s caller may) given single holds))
-      (λ fails. let not-0 : eqb answer 0 ≡ false = rw answer-is (not_held_number s caller given fails) in
+      (λ fails. let not_0 : eqb answer 0 ≡ false = rw answer-is (not_held_number s caller given fails) in
       quiet (handed-is ∙ release_wakes_none s caller given fails) (then_is ∙ release_not_held s caller given fails)
       (λ level. rw act-is (refl, refl))
-      (λ level. rw not-0 (and-false (gives_back number level act)))
-      (λ sight. refused_seen number act answer sight not-0))
+      (λ level. rw not_0 (and-false (gives_back number level act)))
+      (λ sight. refused_seen number act answer sight not_0))
 
   -- what a deed is to a number
   pub way_of : {act : Act} {answer : ℕ} {handed : List ℕ} {then : Semaphores} → Deed act answer handed s then → Way number act answer handed s then
   way_of {act} (outside act-is handed-is then_is) =
       turned (quiet handed-is then_is (λ level. rw act-is (refl, refl)) (λ level. rw act-is) (λ sight. rw act-is))
-  way_of {act} {answer} (refused not-0 not-32 handed-is then_is) =
+  way_of {act} {answer} (refused not_0 not-32 handed-is then_is) =
       turned (quiet handed-is then_is
-      (λ level. (rw not-0 (and-false (asks_for number level act)), rw not-32 (and-false (asks_for number level act))))
-      (λ level. rw not-0 (and-false (gives_back number level act)))
-      (λ sight. refused_seen number act answer sight not-0))
+      (λ level. (rw not_0 (and-false (asks_for number level act)), rw not-32 (and-false (asks_for number level act))))
+      (λ level. rw not_0 (and-false (gives_back number level act)))
+      (λ sight. refused_seen number act answer sight not_0))
   way_of (asks caller asked may act-is answer-is handed-is then_is) = requested caller asked may act-is answer-is handed-is then_is
   way_of (gives caller given may act-is single answer-is handed-is then_is) = turned (gives_turned caller given may act-is single answer-is handed-is then_is)
   way_of (gives_all caller may act-is answer-is handed-is then_is) =

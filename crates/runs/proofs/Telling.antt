@@ -108,8 +108,8 @@ released_as_seen c good steps caller number usable =
     subst (Answered caller sight)
     (sym (steady_done (RELSEMA caller number) t (run_steady c good steps)))
     (by_caller_lem (Answered caller sight) t caller _
-    (λ not-10 not-33. absurd (not-10 refl))
-    (λ not-10 not-33. absurd (not-33 refl))
-    (λ configured ready not-10 not-33.
+    (λ not_10 not_33. absurd (not_10 refl))
+    (λ not_10 not_33. absurd (not_33 refl))
+    (λ configured ready not_10 not_33.
     rw (one, seen.holds caller (omega (arith, configured_level t.config caller configured)))
     (gave_answer t caller number ∙ release_number t.semaphores caller number usable)))

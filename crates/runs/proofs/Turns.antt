@@ -139,7 +139,7 @@ waits_usable s level number =
     (λ unusable waits. let z : ◌≡◌ {A = ℕ} 0 1 = cc in absurd (omega arith))
     (λ usable was_free waits. usable)
     (λ usable own waits. usable)
-    (λ usable not-Free not_own waits. usable)
+    (λ usable not_free not_own waits. usable)
 
 -- who has to wait stands behind all others
 waits_last : (s then : Semaphores) (level number : ℕ) → Orderly s → HasToWait level number s then → waiters_of then number ≡ waiters_of s number ++ (level ∷ [])

@@ -153,7 +153,7 @@ module _ (s : Semaphores) (level number : ℕ) (orderly : Orderly s) (lets : may
   -- so the semaphores stand orderly after that, if another holds the number
   joined_orderly : usable_of number ≡ true → (holder_of s number ≡ free → ⊥) → (holder_of s number ≡ level → ⊥) → Orderly (joined s level number)
   unfolding holder_of
-  joined_orderly usable not-Free not_own = record {
+  joined_orderly usable not_free not_own = record {
     numbers = orderly.numbers;
     places = joined_places;
     count = joined_count;
@@ -162,7 +162,7 @@ module _ (s : Semaphores) (level number : ℕ) (orderly : Orderly s) (lets : may
     held = λ other w stands.
         by_test (eqb number other)
         (λ e. let here : number ≡ other = eqb-true _ _ e in
-        stands_joined w (waiters_of s other) (rw (joined_waiters other, e) at stands) (orderly.held other w) (λ f. rw (← here, ← f) (usable, not-Free, not_own)))
+        stands_joined w (waiters_of s other) (rw (joined_waiters other, e) at stands) (orderly.held other w) (λ f. rw (← here, ← f) (usable, not_free, not_own)))
         (λ e. orderly.held other w (rw (joined_waiters other, e, append-nil) at stands));
   }
 
@@ -190,7 +190,7 @@ request_orderly s level number orderly lets =
     (λ unusable. orderly)
     (λ usable was_free. held_orderly s level number orderly was_free)
     (λ usable own. orderly)
-    (λ usable not-Free not_own. joined_orderly s level number orderly lets usable not-Free not_own)
+    (λ usable not_free not_own. joined_orderly s level number orderly lets usable not_free not_own)
 
 -- and after the releases of many numbers
 releases_orderly : (many number level : ℕ) (s : Semaphores) → Orderly s → Orderly (released_from many number level s)

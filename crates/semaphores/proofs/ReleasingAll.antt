@@ -15,7 +15,7 @@ use Rattle.semaphores.proofs.Waiting.{with_list}
 -- a number that the level does not hold makes no difference
 pub also_passed : (all : ReleaseAll) (level number : ℕ) → eqb (holder_of all.semaphores number) level ≡ false → also_of all level number ≡ all
 unfolding also_of release_of not_held_of holds_of
-also_passed all level number other = by_test (usable_of number) (λ usable. rw (usable, other)) (λ not-usable. rw not-usable)
+also_passed all level number other = by_test (usable_of number) (λ usable. rw (usable, other)) (λ not_usable. rw not_usable)
 
 -- where a release of all ends that has so many numbers left, from a first one on
 unfoldable pub finished_of : ℕ → ℕ → ℕ → ReleaseAll → ReleaseAll

@@ -90,20 +90,20 @@ module _ (number level other : ℕ) (s : Semaphores) (orderly : Orderly s) where
       (λ unusable. sym (append-nil _))
       (λ usable was_free. sym (append-nil _))
       (λ usable own. sym (append-nil _))
-      (λ usable not-Free not_own. joined_waiters s level other orderly e number)))
+      (λ usable not_free not_own. joined_waiters s level other orderly e number)))
       (λ e. rw e (sym (append-nil _)))
 
   -- and gives no other holder to a semaphore that is held
   request_holder : (holder_of s number ≡ free → ⊥) → holder_of (step_of (requests level other) s) number ≡ holder_of s number
   unfolding step_of holder_of
-  request_holder not-Free =
+  request_holder not_free =
       by_test (may_request s level)
       (λ e. rw e
       (by_request (λ request. holder_of request.semaphores number ≡ holder_of s number) s level other
       (λ unusable. refl)
-      (λ usable was_free. get_or-set_other s.holders other number level 0 (λ same. not-Free (rw same was_free)))
+      (λ usable was_free. get_or-set_other s.holders other number level 0 (λ same. not_free (rw same was_free)))
       (λ usable own. refl)
-      (λ usable not-free' not_own. refl)))
+      (λ usable not_free' not_own. refl)))
       (λ e. rw e)
 
 -- a step that releases turns the queue of a number, or does not, as it releases the number
@@ -111,7 +111,7 @@ turn_step : (number : ℕ) (x : Step) (s : Semaphores) → joins_of number x s �
 turn_step number x s none turn = record {
   queue = turn.queue ∙ rw (none, append-nil);
   handed = λ released. rw released at turn.holder;
-  kept = λ not-released not-Free. rw not-released at turn.holder;
+  kept = λ not_released not_free. rw not_released at turn.holder;
 }
 
 -- the law of one step, from which all others follow
@@ -120,7 +120,7 @@ unfolding releases_number step_of joins_of
 one_step number (requests level other) s orderly = record {
   queue = request_queue number level other s orderly;
   handed = λ released. absurd (never_both released refl);
-  kept = λ not-released. request_holder number level other s orderly;
+  kept = λ not_released. request_holder number level other s orderly;
 }
 one_step number (releases level other) s orderly =
     turn_step number (releases level other) s refl

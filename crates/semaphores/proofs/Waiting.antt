@@ -69,8 +69,8 @@ module _ (number : ℕ) where
   levels_other other differs (w ∷ l) =
       by_test (waits_for number w)
       (λ e. let here : w.number ≡ number = eqb-true _ _ e in
-      let not-other : waits_for other w ≡ false = ne_eqb _ _ (λ f. differs (sym here ∙ f)) in
-      rw (e, not-other))
+      let not_other : waits_for other w ≡ false = ne_eqb _ _ (λ f. differs (sym here ∙ f)) in
+      rw (e, not_other))
       (λ e. by_test (waits_for other w) (λ f. rw (e, f) (ap (◌∷◌ w.level) (levels_other other differs l))) (λ f. rw (e, f) (levels_other other differs l)))
 
   -- where nobody waits for the number, nobody leaves
@@ -86,10 +86,10 @@ module _ (number : ℕ) where
   -- one more behind the others joins its own number's queue alone
   pub levels_behind : (l : List Waiter) (w : Waiter) → levels_for number (l ++ (w ∷ [])) ≡ levels_for number l ++ pick (waits_for number w) (w.level ∷ []) []
   unfolding levels_for
-  levels_behind l w = rw (keep_append (waits_for number) l (w ∷ []), map-append) (ap (◌++◌ (map (λ v. v.level) (keep_of (waits_for number) l))) (levels-one w))
+  levels_behind l w = rw (keep_append (waits_for number) l (w ∷ []), map-append) (ap (◌++◌ (map (λ v. v.level) (keep_of (waits_for number) l))) (levels_one w))
     where
-      levels-one : (w : Waiter) → map (λ v. v.level) (keep_of (waits_for number) (w ∷ [])) ≡ pick (waits_for number w) (w.level ∷ []) []
-      levels-one w = unfold keep_of in by_test (waits_for number w) (λ e. rw e) (λ e. rw e)
+      levels_one : (w : Waiter) → map (λ v. v.level) (keep_of (waits_for number) (w ∷ [])) ≡ pick (waits_for number w) (w.level ∷ []) []
+      levels_one w = unfold keep_of in by_test (waits_for number w) (λ e. rw e) (λ e. rw e)
 
   -- a queue without the first that waits for the number is a part of it
   pub part_without : (l : List Waiter) → Part (without_first number l) l

@@ -1,5 +1,5 @@
 -- Document 01, "Semaphores", and document 02, §2 and §3.
-use Rattle.std.specs.Prelude.{Bool, true, false, ◌&&◌, ◌||◌, List, [], ◌∷◌, ◌++◌, ℕ, zero, suc, eqb, leb, get_or, set, replicate}
+use Rattle.std.specs.Prelude.{Bool, false, ◌&&◌, ◌||◌, List, [], ◌∷◌, ◌++◌, ℕ, zero, suc, eqb, leb, get_or, set, replicate}
 use Rattle.common.specs.Choice.{pick}
 use Rattle.common.specs.Fold.{fold_of}
 use Rattle.semaphores.specs.declared.queues.Waiter.{Waiter}
@@ -12,7 +12,6 @@ use Rattle.semaphores.specs.declared.Requested.TheVariants.{Unusable, Held, Wait
 use Rattle.semaphores.specs.declared.Release.{Release}
 use Rattle.semaphores.specs.declared.Released.{Released}
 use Rattle.semaphores.specs.declared.Released.TheVariants.{NotHolder, Freed, HandedTo}
-use Rattle.semaphores.specs.declared.Released.TheVariants as Released
 use Rattle.semaphores.specs.declared.ReleaseAll.{ReleaseAll}
 use Rattle.semaphores.specs.Queues.{empty_of, push_of, leaving_of, levels_for, list_of, levelled, with_of}
 

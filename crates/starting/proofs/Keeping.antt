@@ -37,9 +37,9 @@ unfolding start_of Keeps
 start_keeps t level priority steady =
     keeps_obeyed _ t _ steady
     (λ passed.
-    let level-known = also_of Passed (configured_of t.config level) NoUser in
-    let inactive = last_passed (also_of level-known (leb priority 63) ParameterError) (is_of (process_of t level).state Inactive) Started passed in
-    let small = last_passed level-known (leb priority 63) ParameterError inactive.0 in
+    let level_known = also_of Passed (configured_of t.config level) NoUser in
+    let inactive = last_passed (also_of level_known (leb priority 63) ParameterError) (is_of (process_of t level).state Inactive) Started passed in
+    let small = last_passed level_known (leb priority 63) ParameterError inactive.0 in
     steady_process t level _ steady (tame_started t.config.places (process_of t level) priority small.1 inactive.1))
 
 -- SETPRIORITY keeps the table steady

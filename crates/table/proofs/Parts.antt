@@ -22,24 +22,24 @@ pub record SoundParts (t : Table) : Type 0 where
 pub sound_parts : (t : Table) → sound_of t ≡ true → SoundParts t
 unfolding sound_of
 sound_parts t sound =
-    let to-pool = both_true _ (pool_sound t.config t.pool) sound in
-    let to-latch = both_true _ (on_card t.config t.latch) to-pool.0 in
-    let to-mask = both_true _ (on_card t.config t.mask) to-latch.0 in
-    let to-queue = both_true _ (queue_sound t.config t.semaphores.holders t.semaphores.queue) to-mask.0 in
-    let to-holders = both_true _ (holders_sound t.config t.semaphores.holders) to-queue.0 in
-    let to-orders = both_true _ (orders_sound t.config t.orders) to-holders.0 in
-    let to-levels = both_true _ (levels_sound t.config t.semaphores.queue t.processes) to-orders.0 in
-    let to-clock = both_true (good_of t.config) (clock_within t) to-levels.0 in
+    let to_pool = both_true _ (pool_sound t.config t.pool) sound in
+    let to_latch = both_true _ (on_card t.config t.latch) to_pool.0 in
+    let to_mask = both_true _ (on_card t.config t.mask) to_latch.0 in
+    let to_queue = both_true _ (queue_sound t.config t.semaphores.holders t.semaphores.queue) to_mask.0 in
+    let to_holders = both_true _ (holders_sound t.config t.semaphores.holders) to_queue.0 in
+    let to_orders = both_true _ (orders_sound t.config t.orders) to_holders.0 in
+    let to_levels = both_true _ (levels_sound t.config t.semaphores.queue t.processes) to_orders.0 in
+    let to_clock = both_true (good_of t.config) (clock_within t) to_levels.0 in
     record {
-      good = to-clock.0;
-      clock = to-clock.1;
-      levels = to-levels.1;
-      orders = to-orders.1;
-      holders = to-holders.1;
-      queue = to-queue.1;
-      mask = to-mask.1;
-      latch = to-latch.1;
-      pool = to-pool.1;
+      good = to_clock.0;
+      clock = to_clock.1;
+      levels = to_levels.1;
+      orders = to_orders.1;
+      holders = to_holders.1;
+      queue = to_queue.1;
+      mask = to_mask.1;
+      latch = to_latch.1;
+      pool = to_pool.1;
     }
 
 -- and a table of which all of them hold is sound

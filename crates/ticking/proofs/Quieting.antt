@@ -16,7 +16,6 @@ use Rattle.day.specs.TimeOfDay.{forward_of}
 use Rattle.day.proofs.Forward.{forward_forward}
 use Rattle.day.proofs.Until.{until_range}
 use Rattle.orders.specs.declared.Order.{Order}
-use Rattle.orders.specs.declared.Orders.{Orders}
 use Rattle.orders.specs.Orders.{standing_of}
 use Rattle.orders.specs.Advance.{due_of, advance_of, next_due, next_due_of}
 use Rattle.orders.proofs.Nearest.{quiet_none}

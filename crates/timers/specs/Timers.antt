@@ -11,13 +11,11 @@ use Rattle.orders.specs.declared.Cancel.{Cancel}
 use Rattle.orders.specs.declared.Cancelled.{Cancelled}
 use Rattle.orders.specs.declared.Cancelled.TheVariants.{BadSender, UnknownReceiver, NoOrder, NotFound, NotTheirs, Done}
 use Rattle.orders.specs.declared.First.{First}
-use Rattle.orders.specs.declared.First.TheVariants as First
 use Rattle.orders.specs.declared.Order.{Order}
 use Rattle.orders.specs.Cancel.{cancel_of as orders_cancelled}
 use Rattle.orders.specs.Moments.{interval_of, delay_of}
 use Rattle.orders.specs.Orders.{accept_of}
 use Rattle.table.specs.declared.answers.Answer.{Answer}
-use Rattle.table.specs.declared.answers.Answer.TheVariants as Answer
 use Rattle.process.specs.declared.Process.{Process}
 use Rattle.table.specs.declared.configs.Config.{Config}
 use Rattle.table.specs.declared.Table.{Table}

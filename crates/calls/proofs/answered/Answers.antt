@@ -1,6 +1,5 @@
 use Rattle.table.specs.Table.{refused_of}
 use Rattle.calls.specs.Outcomes.{answered_of}
-use borrow.Author.Rules.{rules}
 use Rattle.calls.proofs.answered.Goals as goal
 
 pub returns : goal.returns

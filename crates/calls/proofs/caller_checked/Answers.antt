@@ -1,4 +1,3 @@
-use borrow.Author.Rules.{rules}
 use Rattle.calls.proofs.caller_checked.Goals as goal
 
 pub returns : goal.returns

@@ -1,4 +1,3 @@
-use borrow.Author.Rules.{rules}
 use Rattle.calls.specs.Decisions.{told_of}
 use Rattle.calls.proofs.told.Goals as goal
 

@@ -1,5 +1,4 @@
 use Rattle.calls.specs.Outcomes.{carries_number}
-use borrow.Author.Rules.{rules}
 use Rattle.calls.proofs.with_number.Goals as goal
 
 pub returns : goal.returns

@@ -1,5 +1,5 @@
 use native.Mathlib.Omega.{arith}
-use Rattle.day.proofs.Halving.{counts, span_six, Marked, ToCome, to_come, piece_some, turned, unmarked}
+use Rattle.day.proofs.Halving.{counts, span_six, ToCome, to_come, piece_some, turned, unmarked}
 use Rattle.day.proofs.counted.Goals.{In-loop-count}
 use Rattle.day.proofs.counted.Goals as goal
 

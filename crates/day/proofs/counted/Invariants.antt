@@ -1,5 +1,4 @@
-use native.Mathlib.Omega.{arith}
-use Rattle.day.proofs.Halving.{counts, span_six, Marked, ToCome, to_come, piece_some, turned, unmarked}
+use Rattle.day.proofs.Halving.{Marked}
 use Rattle.day.proofs.counted.Given as goal
 
 abbrev pub invariant-loop-count : goal.invariant-loop-count

@@ -1,4 +1,3 @@
-use borrow.Author.Rules.{rules}
 use native.Mathlib.Omega.{arith}
 use Rattle.day.proofs.Halving.{one_more, none_more}
 use Rattle.day.proofs.halved.Goals as goal

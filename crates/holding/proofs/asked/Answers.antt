@@ -1,4 +1,3 @@
-use borrow.Author.Rules.{rules}
 use Rattle.holding.specs.Holding.{asked_of}
 use Rattle.holding.proofs.asked.Goals as goal
 

@@ -1,4 +1,3 @@
-use borrow.Author.Rules.{rules}
 use Rattle.holding.specs.Holding.{given_of}
 use Rattle.holding.proofs.given.Goals as goal
 

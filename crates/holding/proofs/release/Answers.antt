@@ -1,12 +1,10 @@
-use mathlib.Core.Logic.{⊎_elim}
 use mathlib.Core.List.{map}
 use mathlib.Core.Path.{◌≡◌, ◌∙◌, refl, ap, ap₂, sym, subst}
-use Prim.Native.Nat.{◌≤◌, ◌-◌}
+use Prim.Native.Nat.{◌≤◌}
 use native.Mathlib.Omega.{arith}
 use borrow.Author.Rules.{rules}
-use lib.ListN.{length, take, drop, get_or, set, length-set}
+use lib.ListN.{length, take, get_or, set, length-set}
 use lib.Seq.{set_out}
-use Rattle.common.specs.Fold.{fold_of}
 use Rattle.common.proofs.Fold.{walk_turn, walk_end}
 use Rattle.common.proofs.Lists.{of_map, get_or_within}
 use Rattle.process.specs.declared.Process.{Process}
@@ -73,12 +71,12 @@ loop-at-preserved c =
     let within : most.result ≤ length given.result.woken.levels = omega (arith, most.ensures) in
     let turned : c.if-level-lt12.after ≡ with_processes loop.after (handed_at processes level) =
     elim c.if-level-lt12.branch [
-      then-level-lt12 w ↦
-        w.after-is
-        ∙ ap (λ (p : Process). with_processes loop.after (set processes level p))
-        (w.moved.ensures ∙ ap (λ (p : Process). moved_of p Handover) (get_or_within processes level _ fresh_of (omega (arith, w.if-level-lt12.true, loop.invariant.1))))
+      | then-level-lt12 w ↦
+          w.after-is
+          ∙ ap (λ (p : Process). with_processes loop.after (set processes level p))
+          (w.moved.ensures ∙ ap (λ (p : Process). moved_of p Handover) (get_or_within processes level _ fresh_of (omega (arith, w.if-level-lt12.true, loop.invariant.1))))
       | else-level-lt12 w ↦
-        w.after-is ∙ ap (with_processes loop.after) (sym (set_out _ _ _ (omega (arith, w.if-level-lt12.false, loop.invariant.1))))
+          w.after-is ∙ ap (with_processes loop.after) (sym (set_out _ _ _ (omega (arith, w.if-level-lt12.false, loop.invariant.1))))
     ] in
     let woke : handed c.if-level-lt12.after.processes c.push-wakes.result ≡ handed_to_of (handed processes loop.wakes) level =
     ap₂ handed (ap (λ (t : Table). t.processes) turned) (c.push-wakes.ensures ∙ rw c.empty.ensures) in (

@@ -1,5 +1,4 @@
 use native.Mathlib.Nat.{zero-add}
-use borrow.Author.Rules.{rules}
 use Rattle.inputs.specs.InputSet.{below_of, set_of}
 use Rattle.inputs.proofs.below.Goals as goal
 

@@ -1,5 +1,4 @@
 use mathlib.Core.Path.{◌∙◌}
-use borrow.Author.Rules.{rules}
 use Rattle.inputs.proofs.Sets.{run_single}
 use Rattle.inputs.proofs.single.Goals as goal
 

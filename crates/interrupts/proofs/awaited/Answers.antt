@@ -1,4 +1,3 @@
-use borrow.Author.Rules.{rules}
 use Rattle.interrupts.specs.Interrupts.{awaited_of}
 use Rattle.interrupts.proofs.awaited.Goals as goal
 

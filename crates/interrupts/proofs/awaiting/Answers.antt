@@ -1,4 +1,3 @@
-use borrow.Author.Rules.{rules}
 use borrow.Author.Tests.{eq-eqb, ne_eqb}
 use Rattle.interrupts.specs.Interrupts.{awaiting_for}
 use Rattle.interrupts.proofs.awaiting.Goals as goal

@@ -1,6 +1,5 @@
 use mathlib.Core.Path.{◌≡◌, ◌∙◌, ap, sym}
 use native.Mathlib.Omega.{arith}
-use borrow.Author.Rules.{rules}
 use Rattle.process.specs.declared.Process.{Process}
 use Rattle.calls.specs.Levels.{process_of}
 use Rattle.calls.proofs.Obeying.{outcome_alone, refused_by, passed_all}

@@ -1,4 +1,3 @@
-use borrow.Author.Rules.{rules}
 use Rattle.interrupts.proofs.enable_checked.Goals as goal
 
 pub returns : goal.returns

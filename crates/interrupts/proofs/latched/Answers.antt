@@ -24,10 +24,10 @@ offset_bounds-after-at-in-Owns c = omega (arith, c.least-at.ensures)
 
 pub bounds-after-at-in-Owns : goal.bounds-after-at-in-Owns
 bounds-after-at-in-Owns c = omega (
-      arith,
-      c.least-at.ensures,
-      whole (goal.at.bounds-after-at-in-Owns c).Start,
-    )
+  arith,
+  c.least-at.ensures,
+  whole (goal.at.bounds-after-at-in-Owns c).Start,
+)
 
 pub returns-in-Owns : goal.returns-in-Owns
 unfolding latched_of

@@ -1,4 +1,3 @@
-use borrow.Author.Rules.{rules}
 use Rattle.interrupts.proofs.owns_input.Goals as goal
 
 pub returns-in-Owns : goal.returns-in-Owns

@@ -1,8 +1,7 @@
 use mathlib.Core.Path.{◌≡◌, ◌∙◌, refl, sym}
 use mathlib.Core.List.{List, [], ◌∷◌}
-use Prim.Native.Nat.{ℕ, ◌≤◌, ◌-◌}
+use Prim.Native.Nat.{ℕ}
 use native.Mathlib.Omega.{arith}
-use borrow.Author.Rules.{rules}
 use Rattle.common.specs.Fold.{fold_of}
 use Rattle.inputs.specs.InputSet.{rising_of}
 use Rattle.inputs.proofs.Rising.{rising_turn, rising_end}

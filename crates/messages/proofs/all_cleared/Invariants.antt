@@ -1,16 +1,9 @@
-use mathlib.Core.Path.{◌≡◌, ◌∙◌, refl, sym}
-use mathlib.Core.List.{List, [], ◌∷◌}
-use Prim.Native.Nat.{ℕ, ◌≤◌, ◌-◌}
-use native.Mathlib.Omega.{arith}
-use borrow.Author.Rules.{rules}
+use mathlib.Core.Path.{◌≡◌}
+use Prim.Native.Nat.{◌≤◌, ◌-◌}
 use Rattle.common.specs.Fold.{fold_of}
 use Rattle.inputs.specs.InputSet.{rising_of}
-use Rattle.inputs.proofs.Rising.{rising_turn, rising_end}
-use Rattle.process.specs.declared.Process.{Process}
 use Rattle.table.specs.Configuration.{configured_of}
-use Rattle.messages.specs.declared.Clearing.{Clearing}
-use Rattle.messages.specs.Receivers.{cleared_at}
-use Rattle.messages.specs.Receiving.{cleared_for, clearing_at, clearing_for}
+use Rattle.messages.specs.Receiving.{clearing_at}
 use Rattle.messages.proofs.all_cleared.Given as goal
 
 abbrev pub invariant-loop-level : goal.invariant-loop-level

@@ -1,4 +1,3 @@
-use borrow.Author.Rules.{rules}
 use borrow.Author.Tests.{eq-eqb, ne_eqb}
 use Rattle.messages.specs.Receiving.{awaited_of}
 use Rattle.messages.proofs.awaited.Goals as goal

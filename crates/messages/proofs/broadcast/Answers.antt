@@ -1,8 +1,7 @@
-use mathlib.Core.Logic.{⊎_elim}
 use mathlib.Core.Path.{◌≡◌, ◌∙◌, refl, ap, sym}
 use mathlib.Core.Bool.{Bool}
 use mathlib.Core.List.{List}
-use Prim.Native.Nat.{ℕ, ◌≤◌, ◌-◌}
+use Prim.Native.Nat.{ℕ}
 use native.Mathlib.Omega.{arith}
 use borrow.Author.Rules.{rules}
 use lib.ListN.{length, length-set}
@@ -57,11 +56,11 @@ loop-level-preserved c =
     let one = sending config.places start.args.condition start.args.message loop.posting loop.level in
     let turned : c.if-has_level.posting ≡ pick c.has_level.result one loop.posting =
     elim c.if-has_level.branch [
-      then-has_level w ↦
-        w.posting-is
-        ∙ rw (w.is_full.ensures, w.pushed-posting.ensures, w.delivered-delivery.ensures)
-        (sym (step_within Sent config.places loop.posting (letter loop.level start.args.condition start.args.message) loop.invariant.1 _ test))
-        ∙ sym (ap (λ (wanted : Bool). pick wanted one loop.posting) w.if-has_level.true)
+      | then-has_level w ↦
+          w.posting-is
+          ∙ rw (w.is_full.ensures, w.pushed-posting.ensures, w.delivered-delivery.ensures)
+          (sym (step_within Sent config.places loop.posting (letter loop.level start.args.condition start.args.message) loop.invariant.1 _ test))
+          ∙ sym (ap (λ (wanted : Bool). pick wanted one loop.posting) w.if-has_level.true)
       | else-has_level w ↦ w.posting-is ∙ sym (ap (λ (wanted : Bool). pick wanted one loop.posting) w.if-has_level.false)
     ] in (
       omega arith,

@@ -1,29 +1,14 @@
-use mathlib.Core.Logic.{⊎_elim}
-use mathlib.Core.Path.{◌≡◌, ◌∙◌, refl, ap, sym}
-use mathlib.Core.Bool.{Bool}
-use mathlib.Core.List.{List}
+use mathlib.Core.Path.{◌≡◌}
 use Prim.Native.Nat.{ℕ, ◌≤◌, ◌-◌}
-use native.Mathlib.Omega.{arith}
-use borrow.Author.Rules.{rules}
-use lib.ListN.{length, length-set}
-use Rattle.common.specs.Choice.{pick}
+use lib.ListN.{length}
 use Rattle.common.specs.Fold.{fold_of}
-use Rattle.common.proofs.Cases.{by_pick}
-use Rattle.common.proofs.Lists.{of_map}
-use Rattle.common.proofs.Fold.{fold_map}
 use Rattle.inputs.specs.InputSet.{rising_of}
-use Rattle.inputs.proofs.Rising.{rising_turn, rising_end}
 use Rattle.process.specs.declared.Condition.{Condition}
-use Rattle.process.specs.declared.Process.{Process}
 use Rattle.process.specs.declared.buffers.Message.{Message}
-use Rattle.table.specs.declared.configs.Config.{Config}
 use Rattle.table.specs.Configuration.{configured_of}
 use Rattle.posting.specs.declared.Origin.TheVariants.{Sent}
 use Rattle.posting.specs.declared.Posting.{Posting}
-use Rattle.posting.specs.Posting.{letter, begin_of, posting_of, one_of, added_of, step_of}
-use Rattle.posting.proofs.Letters.{posts_begin}
-use Rattle.posting.proofs.Stepping.{step_within}
-use Rattle.messages.specs.Sending.{send_posted, broadcast_posted}
+use Rattle.posting.specs.Posting.{letter, step_of}
 use Rattle.messages.proofs.broadcast.Given as goal
 
 -- the message for one level more

@@ -1,5 +1,4 @@
 use mathlib.Core.Path.{◌≡◌, ◌∙◌, sym}
-use borrow.Author.Rules.{rules}
 use Rattle.calls.proofs.Obeying.{outcome_alone, refused_by, passed_all}
 use Rattle.messages.specs.Receiving.{clearing_for, clear_message_of}
 use Rattle.messages.proofs.Checking.{named_verdict}

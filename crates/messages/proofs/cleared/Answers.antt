@@ -1,4 +1,3 @@
-use borrow.Author.Rules.{rules}
 use Rattle.messages.specs.Receiving.{cleared_for, clearing_at, clearing_for}
 use Rattle.messages.proofs.cleared.Goals as goal
 

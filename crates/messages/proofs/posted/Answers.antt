@@ -1,6 +1,5 @@
 use mathlib.Core.Path.{◌∙◌}
 use mathlib.Core.List.{[], ◌∷◌}
-use borrow.Author.Rules.{rules}
 use Rattle.posting.specs.declared.Origin.TheVariants.{Sent}
 use Rattle.posting.specs.Posting.{letter}
 use Rattle.posting.proofs.Letters.{posts_begin}

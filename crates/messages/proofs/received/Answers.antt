@@ -1,4 +1,3 @@
-use borrow.Author.Rules.{rules}
 use Rattle.messages.specs.Receiving.{received_of}
 use Rattle.messages.proofs.received.Goals as goal
 

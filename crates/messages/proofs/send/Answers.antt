@@ -1,7 +1,6 @@
 use mathlib.Core.Path.{◌≡◌, ◌∙◌, refl, ap, sym}
 use Prim.Native.Nat.{◌<◌}
 use native.Mathlib.Omega.{arith}
-use borrow.Author.Rules.{rules}
 use Rattle.process.specs.declared.Target.{Target}
 use Rattle.process.specs.declared.Target.TheVariants.{All, Level, Unknown}
 use Rattle.calls.specs.Effects.{outcome_of}

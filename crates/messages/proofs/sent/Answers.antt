@@ -1,10 +1,8 @@
 use mathlib.Core.Path.{◌∙◌}
-use borrow.Author.Rules.{rules}
 use Rattle.process.specs.declared.Condition.{Condition}
 use Rattle.process.specs.declared.Target.{Target}
 use Rattle.process.specs.declared.buffers.Message.{Message}
 use Rattle.table.specs.declared.Table.{Table}
-use Rattle.posting.specs.declared.Posting.{Posting}
 use Rattle.posting.specs.Posting.{Posted}
 use Rattle.messages.specs.Sending.{send_posted, sent_of}
 use Rattle.messages.proofs.Answering.{waiting_none, waiting_some, always_full, always_served}

@@ -1,4 +1,3 @@
-use borrow.Author.Rules.{rules}
 use Rattle.messages.proofs.took.Goals as goal
 
 pub returns : goal.returns

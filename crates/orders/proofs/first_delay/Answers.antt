@@ -1,5 +1,4 @@
 use Rattle.orders.specs.Moments.{delay_of}
-use borrow.Author.Rules.{rules}
 use Rattle.orders.proofs.first_delay.Goals as goal
 
 pub returns-in-Relative : goal.returns-in-Relative

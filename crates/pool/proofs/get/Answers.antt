@@ -2,7 +2,6 @@ use mathlib.Core.Path.{◌≡◌, ◌∙◌, sym}
 use mathlib.Core.Bool.{true}
 use native.Mathlib.Omega.{arith}
 use lib.ListN.{length}
-use borrow.Author.Rules.{rules}
 use borrow.Author.Tests.{leb-true}
 use Rattle.pool.specs.Parts.{lies, get_of}
 use Rattle.pool.proofs.Parts.{get_lent}

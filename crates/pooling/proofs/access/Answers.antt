@@ -1,4 +1,3 @@
-use borrow.Author.Rules.{rules}
 use Rattle.pooling.specs.Pooling.{access_of}
 use Rattle.pooling.proofs.access.Goals as goal
 

@@ -1,4 +1,3 @@
-use borrow.Author.Rules.{rules}
 use Rattle.pooling.specs.Deciding.{brought_of}
 use Rattle.pooling.proofs.brought.Goals as goal
 

@@ -1,4 +1,3 @@
-use borrow.Author.Rules.{rules}
 use Rattle.pooling.specs.Deciding.{entered_of}
 use Rattle.pooling.proofs.entered.Goals as goal
 

@@ -1,4 +1,3 @@
-use borrow.Author.Rules.{rules}
 use borrow.Author.Tests.{eq-eqb, ne_eqb}
 use Rattle.pooling.specs.Pooling.{buffer_by}
 use Rattle.pooling.proofs.get_granted.Goals as goal

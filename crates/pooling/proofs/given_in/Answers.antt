@@ -1,4 +1,3 @@
-use borrow.Author.Rules.{rules}
 use Rattle.pooling.specs.Deciding.{given_of}
 use Rattle.pooling.proofs.given_in.Goals as goal
 

@@ -1,4 +1,3 @@
-use borrow.Author.Rules.{rules}
 use borrow.Author.Tests.{eq-eqb, ne_eqb}
 use Rattle.pooling.specs.Pooling.{pool_by}
 use Rattle.pooling.proofs.put_granted.Goals as goal

@@ -1,4 +1,3 @@
-use borrow.Author.Rules.{rules}
 use Rattle.pooling.specs.Deciding.{stated_by}
 use Rattle.pooling.proofs.stating.Goals as goal
 

@@ -1,5 +1,4 @@
 use Rattle.posting.specs.Posting.{delivered_to}
-use borrow.Author.Rules.{rules}
 use Rattle.posting.proofs.delivered.Goals as goal
 
 pub returns : goal.returns

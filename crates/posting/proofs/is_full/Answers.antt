@@ -1,4 +1,3 @@
-use borrow.Author.Rules.{rules}
 use Rattle.posting.proofs.is_full.Goals as goal
 
 pub returns-in-Handed : goal.returns-in-Handed

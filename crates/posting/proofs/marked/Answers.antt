@@ -1,5 +1,4 @@
 use Rattle.posting.specs.Posting.{marked_by}
-use borrow.Author.Rules.{rules}
 use Rattle.posting.proofs.marked.Goals as goal
 
 pub returns-then-is_full : goal.returns-then-is_full

@@ -1,7 +1,6 @@
 use mathlib.Core.Path.{◌∙◌, sym}
 use native.Mathlib.Omega.{arith}
 use lib.Dec.{leb}
-use borrow.Author.Rules.{rules}
 use borrow.Author.Tests.{leb-true}
 use Rattle.calls.proofs.Obeying.{last_passed}
 use Rattle.starting.specs.Starting.{started_of}

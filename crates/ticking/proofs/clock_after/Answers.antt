@@ -1,5 +1,4 @@
 use mathlib.Core.Path.{◌∙◌, sym}
-use borrow.Author.Rules.{rules}
 use Rattle.ticking.proofs.Quieting.{clock_none, clock_some}
 use Rattle.ticking.proofs.clock_after.Goals as goal
 

@@ -1,5 +1,4 @@
 use mathlib.Core.Path.{◌∙◌, sym}
-use borrow.Author.Rules.{rules}
 use Rattle.ticking.specs.Ticking.{is_lull}
 use Rattle.ticking.proofs.is_lull.Goals as goal
 

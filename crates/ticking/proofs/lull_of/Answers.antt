@@ -1,4 +1,3 @@
-use borrow.Author.Rules.{rules}
 use Rattle.ticking.specs.Ticking.{lull_of}
 use Rattle.ticking.proofs.lull_of.Goals as goal
 

@@ -1,5 +1,4 @@
 use borrow.Author.Tests.{eq-eqb, ne_eqb}
-use borrow.Author.Rules.{rules}
 use Rattle.ticking.specs.Ticking.{none_due}
 use Rattle.ticking.proofs.none_due.Goals as goal
 

@@ -1,4 +1,3 @@
-use mathlib.Core.Logic.{⊎_elim}
 use mathlib.Core.Path.{◌≡◌, ◌∙◌, refl, ap, ap₂, sym}
 use mathlib.Core.Bool.{Bool, true, false, ◌&&◌, ◌||◌}
 use Prim.Native.Nat.{ℕ, ◌+◌, ◌-◌, ◌*◌, ◌<◌, ◌≤◌, min}
@@ -6,7 +5,7 @@ use native.Mathlib.Omega.{arith}
 use borrow.Author.Rules.{rules}
 use borrow.Author.Tests.{ltb-true, ltb-false, le-ltb}
 use lib.Dec.{ltb}
-use lib.ListN.{length, get_or, take, drop, length-set}
+use lib.ListN.{length, get_or, take, length-set}
 use Rattle.common.specs.Choice.{pick}
 use Rattle.common.proofs.Cases.{by_test, by_pick, both_true, never_both}
 use Rattle.common.proofs.Lists.{of_map}
@@ -20,10 +19,9 @@ use Rattle.posting.specs.Posting.{is_handed}
 use Rattle.process.specs.declared.Delivery.{Delivery}
 use Rattle.table.specs.Sound.{no_order}
 use Rattle.calls.specs.Outcomes.{carries_number}
-use Rattle.table.specs.Wakes.{no_wakes_of}
 use Rattle.ticking.specs.Ticking.{ticks_of}
 use Rattle.ticking.proofs.Quieting.{next_later, end_of, end_all}
-use Rattle.ticking.proofs.Moments.{end_through, at_now, orders_after, after_some, after_none, processes_after, wakes_after, length_after, served_record, served_wakes, served_quiet, unserved_record, unserved_wakes, turn_stays, turn_leaves, taken_all, through_begin, through_moment, through_end}
+use Rattle.ticking.proofs.Moments.{at_now, orders_after, after_some, after_none, processes_after, wakes_after, length_after, served_record, served_wakes, served_quiet, unserved_record, unserved_wakes, turn_stays, turn_leaves, taken_all, through_begin, through_moment, through_end}
 use Rattle.ticking.proofs.running_on.Goals.{After-least_u32-passed, After-one_if, Start, Then-is_due-receiver, then-is_due-receiver+then-is_handed, then-is_due-receiver+else-is_handed, else-is_due-receiver, then-carried-gt0, else-carried-gt0}
 use Rattle.ticking.proofs.running_on.Goals as goal
 
@@ -51,7 +49,7 @@ served c =
     let due : (b : Bool) → c.is_due-is_due.result && ltb order.receiver 12 ≡ b → due_at loop.clock order && ltb order.receiver 12 ≡ b =
     λ b holds. ap (λ d. d && ltb order.receiver 12) (sym c.is_due-is_due.ensures) ∙ holds in
     elim c.if-is_due-receiver.branch [
-      then-is_due-receiver+then-is_handed w ↦ (
+      | then-is_due-receiver+then-is_handed w ↦ (
         w.processes-is
             ∙ rw w.delivered-delivery.ensures (served_record places loop.clock order loop.processes _ loop.invariant.0 (due true w.if-is_due-receiver.true)),
         w.wakes-is ∙ w.pushed-wakes.ensures
@@ -230,8 +228,8 @@ returns c =
     let all : min loop.orders.count 64 ≤ loop.at = omega (arith, loop.invariant.2, over.1) in
     let orders : c.if-carried-gt0.orders ≡ orders_after loop.carried loop.orders (standing_of loop.orders) =
     elim c.if-carried-gt0.branch [
-      then-carried-gt0 w ↦
-        w.orders-is ∙ w.without_place-orders-then-carried-gt0.ensures ∙ after_some loop.orders loop.carried w.if-carried-gt0.true
+      | then-carried-gt0 w ↦
+          w.orders-is ∙ w.without_place-orders-then-carried-gt0.ensures ∙ after_some loop.orders loop.carried w.if-carried-gt0.true
       | else-carried-gt0 w ↦ w.orders-is ∙ after_none loop.orders loop.carried w.if-carried-gt0.false
     ] in
     c.with_number.ensures

@@ -1,5 +1,4 @@
 use mathlib.Core.Path.{sym}
-use borrow.Author.Rules.{rules}
 use Rattle.ticking.proofs.Lulls.{scheduler_same, scheduler_stops}
 use Rattle.ticking.proofs.scheduler_after.Goals as goal
 

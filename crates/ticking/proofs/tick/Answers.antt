@@ -1,5 +1,4 @@
 use mathlib.Core.Path.{◌∙◌, ap}
-use borrow.Author.Rules.{rules}
 use Rattle.calls.specs.Effects.{outcome_of}
 use Rattle.ticking.specs.Ticking.{run_effect}
 use Rattle.ticking.proofs.Quieting.{ticks_one}

@@ -1,7 +1,6 @@
 use mathlib.Core.Path.{◌≡◌, ◌∙◌, ap, sym}
 use mathlib.Core.Bool.{true}
 use mathlib.Core.List.{[]}
-use borrow.Author.Rules.{rules}
 use Rattle.table.specs.declared.Table.{Table}
 use Rattle.table.specs.Wakes.{no_wakes_of}
 use Rattle.calls.specs.Effects.{outcome_of}

@@ -1,4 +1,3 @@
-use borrow.Author.Rules.{rules}
 use Rattle.timers.proofs.cancel_answer.Goals as goal
 
 pub returns-in-BadSender : goal.returns-in-BadSender

@@ -1,4 +1,3 @@
-use borrow.Author.Rules.{rules}
 use Rattle.calls.proofs.Obeying.{refused_by, passed_all}
 use Rattle.timers.specs.Timers.{cancel_schedule_of}
 use Rattle.timers.proofs.cancel_schedule.Goals as goal

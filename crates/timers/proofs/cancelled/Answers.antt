@@ -1,5 +1,4 @@
 use mathlib.Core.Path.{◌∙◌}
-use borrow.Author.Rules.{rules}
 use Rattle.calls.proofs.Obeying.{outcome_alone}
 use Rattle.timers.specs.Timers.{cancelled_of}
 use Rattle.timers.proofs.cancelled.Goals as goal

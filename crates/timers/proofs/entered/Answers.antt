@@ -1,5 +1,4 @@
 use mathlib.Core.Path.{◌∙◌}
-use borrow.Author.Rules.{rules}
 use Rattle.calls.proofs.Obeying.{outcome_alone, outcome_refuse}
 use Rattle.timers.specs.Timers.{ordered}
 use Rattle.timers.proofs.entered.Goals as goal

@@ -1,4 +1,3 @@
-use borrow.Author.Rules.{rules}
 use Rattle.timers.specs.Timers.{moment_of}
 use Rattle.timers.proofs.moment_of.Goals as goal
 

@@ -1,6 +1,5 @@
 use mathlib.Core.Path.{◌∙◌}
 use mathlib.Core.List.{[]}
-use borrow.Author.Rules.{rules}
 use Rattle.table.specs.Wakes.{no_wakes_of}
 use Rattle.calls.proofs.Obeying.{outcome_number, refused_by, passed_all}
 use Rattle.timers.specs.Timers.{read_time_of}

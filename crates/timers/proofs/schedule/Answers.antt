@@ -1,6 +1,5 @@
 use mathlib.Core.Path.{◌∙◌}
 use native.Mathlib.Omega.{arith}
-use borrow.Author.Rules.{rules}
 use Rattle.calls.proofs.Obeying.{refused_by, passed_all}
 use Rattle.timers.specs.Timers.{moment_of, schedule_of}
 use Rattle.timers.proofs.Fitting.{receiver_fits}

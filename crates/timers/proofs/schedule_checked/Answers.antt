@@ -1,4 +1,3 @@
-use borrow.Author.Rules.{rules}
 use Rattle.timers.proofs.schedule_checked.Goals as goal
 
 pub returns : goal.returns

@@ -1,5 +1,4 @@
 use mathlib.Core.Path.{◌∙◌}
-use borrow.Author.Rules.{rules}
 use Rattle.calls.proofs.Obeying.{outcome_alone, refused_by, passed_all}
 use Rattle.timers.specs.Timers.{shutdown_of}
 use Rattle.timers.proofs.shutdown.Goals as goal

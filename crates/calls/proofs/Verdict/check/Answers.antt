@@ -1,5 +1,4 @@
 use Rattle.calls.specs.Verdicts.{also_of}
-use borrow.Author.Rules.{rules}
 use Rattle.calls.proofs.Verdict.check.Goals as goal
 
 pub returns-then-holds : goal.returns-then-holds

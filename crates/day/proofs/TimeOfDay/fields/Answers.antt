@@ -1,4 +1,3 @@
-use borrow.Author.Rules.{rules}
 use native.Mathlib.Omega.{arith}
 use Rattle.day.proofs.Halving.{left_of_lem}
 use Rattle.day.proofs.UnitByUnit.{unit_by_unit}

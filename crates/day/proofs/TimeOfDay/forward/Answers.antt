@@ -1,7 +1,6 @@
 use mathlib.Core.Path.{ap}
 use native.Mathlib.Omega.{arith}
 use Rattle.day.specs.TimeOfDay.{at, forward_of}
-use borrow.Author.Rules.{rules}
 use Rattle.day.proofs.TimeOfDay.forward.Goals as goal
 
 pub returns : goal.returns

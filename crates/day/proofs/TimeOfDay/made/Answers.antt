@@ -1,5 +1,4 @@
 use mathlib.Core.Path.{◌∙◌, ap, sym}
-use borrow.Author.Rules.{rules}
 use native.Mathlib.Omega.{arith}
 use Rattle.day.specs.declared.Made.TheVariants.{Time}
 use Rattle.day.proofs.Ranges.{bad_millisecond, bad_second, bad_minute, bad_hour, made_good}

@@ -1,6 +1,5 @@
 use mathlib.Core.Path.{sym}
 use native.Mathlib.Omega.{arith}
-use borrow.Author.Rules.{rules}
 use Rattle.day.proofs.Until.{until_later, until_earlier}
 use Rattle.day.proofs.TimeOfDay.until.Goals as goal
 

@@ -1,5 +1,4 @@
 use mathlib.Core.Path.{sym}
-use borrow.Author.Rules.{rules}
 use Rattle.inputs.specs.InputSet.{has_of}
 use Rattle.inputs.proofs.Bits.{bit_shifted}
 use Rattle.inputs.proofs.InputSet.has.Goals as goal

@@ -1,4 +1,3 @@
-use borrow.Author.Rules.{rules}
 use Rattle.inputs.proofs.Sets.{either_single}
 use Rattle.inputs.proofs.InputSet.insert.Goals as goal
 

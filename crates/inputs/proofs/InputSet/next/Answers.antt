@@ -1,13 +1,13 @@
 use mathlib.Core.Path.{◌≡◌, refl, sym, ◌∙◌}
-use Prim.Native.Nat.{◌≤◌, ◌<◌, ◌-◌}
+use Prim.Native.Nat.{◌<◌}
 use native.Mathlib.Omega.{arith}
 use lib.Count.{count_trailing_zeros}
 use lib.ListN.{get_or}
 use mir.Syntax.{w64}
 use mir.Val.{Fits}
 use borrow.Author.Rules.{rules}
-use Rattle.inputs.specs.InputSet.{first_of, rising_of, members_of, next_of}
-use Rattle.inputs.proofs.Members.{rest_of, next_here, next_later, trailing_within}
+use Rattle.inputs.specs.InputSet.{rising_of, members_of, next_of}
+use Rattle.inputs.proofs.Members.{next_here, next_later, trailing_within}
 use Rattle.inputs.proofs.InputSet.next.Goals.{Then-word-ne0}
 use Rattle.inputs.proofs.InputSet.next.Goals as goal
 

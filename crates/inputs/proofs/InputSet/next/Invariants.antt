@@ -1,13 +1,7 @@
-use mathlib.Core.Path.{◌≡◌, refl, sym, ◌∙◌}
-use Prim.Native.Nat.{◌≤◌, ◌<◌, ◌-◌}
-use native.Mathlib.Omega.{arith}
-use lib.Count.{count_trailing_zeros}
-use lib.ListN.{get_or}
-use mir.Syntax.{w64}
-use mir.Val.{Fits}
-use borrow.Author.Rules.{rules}
-use Rattle.inputs.specs.InputSet.{first_of, rising_of, members_of, next_of}
-use Rattle.inputs.proofs.Members.{rest_of, next_here, next_later, trailing_within}
+use mathlib.Core.Path.{◌≡◌}
+use Prim.Native.Nat.{◌≤◌, ◌-◌}
+use Rattle.inputs.specs.InputSet.{first_of, next_of}
+use Rattle.inputs.proofs.Members.{rest_of}
 use Rattle.inputs.proofs.InputSet.next.Given as goal
 
 -- the lowest input is the lowest from word `at` on

@@ -1,4 +1,3 @@
-use borrow.Author.Rules.{rules}
 use Rattle.inputs.proofs.Sets.{except_single}
 use Rattle.inputs.proofs.InputSet.remove.Goals as goal
 

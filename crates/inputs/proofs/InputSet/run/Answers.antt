@@ -1,4 +1,3 @@
-use borrow.Author.Rules.{rules}
 use Rattle.inputs.proofs.Sets.{except_below}
 use Rattle.inputs.proofs.InputSet.run.Goals as goal
 

@@ -1,6 +1,5 @@
 use native.Mathlib.Omega.{arith}
 use lib.Pow.{pow_pos}
-use borrow.Author.Rules.{rules}
 use Rattle.inputs.proofs.Bits.{one_shifted, below_word}
 use Rattle.inputs.proofs.word.below.Goals as goal
 

@@ -1,4 +1,3 @@
-use borrow.Author.Rules.{rules}
 use Rattle.messages.specs.Receiving.{clearing_at}
 use Rattle.messages.proofs.Clearing.at.Goals as goal
 

@@ -1,4 +1,3 @@
-use borrow.Author.Rules.{rules}
 use Rattle.orders.proofs.Order.again.Goals as goal
 
 pub returns : goal.returns

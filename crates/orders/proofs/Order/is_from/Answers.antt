@@ -1,5 +1,4 @@
 use Rattle.orders.specs.Cancel.{is_from}
-use borrow.Author.Rules.{rules}
 use Rattle.orders.proofs.Order.is_from.Goals as goal
 
 pub returns-in-All : goal.returns-in-All

@@ -1,5 +1,4 @@
 use Rattle.orders.specs.Cancel.{matches_of}
-use borrow.Author.Rules.{rules}
 use Rattle.orders.proofs.Order.matches.Goals as goal
 
 pub returns : goal.returns

@@ -1,6 +1,5 @@
 use borrow.Author.Tests.{eq-eqb, ne_eqb}
 use Rattle.orders.specs.Advance.{onward_of}
-use borrow.Author.Rules.{rules}
 use Rattle.orders.proofs.Order.onward.Goals as goal
 
 pub returns-then-self-eq1 : goal.returns-then-self-eq1

@@ -1,6 +1,5 @@
 use mathlib.Core.Path.{sym}
 use native.Mathlib.Omega.{arith}
-use borrow.Author.Rules.{rules}
 use Rattle.orders.proofs.Tables.{accept_room, accept_full}
 use Rattle.orders.proofs.Orders.accept.Goals as goal
 

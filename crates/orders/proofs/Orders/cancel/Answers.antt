@@ -1,5 +1,4 @@
 use mathlib.Core.Path.{◌∙◌}
-use borrow.Author.Rules.{rules}
 use Rattle.orders.specs.Cancel.{cancel_of}
 use Rattle.orders.proofs.Orders.cancel.Goals as goal
 

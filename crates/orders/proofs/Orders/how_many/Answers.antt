@@ -1,17 +1,13 @@
 use mathlib.Core.Path.{◌≡◌, ◌∙◌, refl, ap, sym}
-use Prim.Native.Nat.{ℕ, ◌≤◌, ◌-◌, ◌+◌}
+use Prim.Native.Nat.{ℕ, ◌≤◌}
 use native.Mathlib.Omega.{arith}
 use native.Mathlib.Nat.{zero-add}
 use borrow.Author.Rules.{rules}
-use lib.ListN.{length, take, drop}
-use Rattle.common.specs.Choice.{pick}
-use Rattle.common.specs.Fold.{fold_of}
+use lib.ListN.{length, take}
 use Rattle.common.specs.Keep.{keep_of}
 use Rattle.common.proofs.Fold.{walk_turn, walk_end}
 use Rattle.common.proofs.Keep.{count_keep, one_at_most}
 use Rattle.common.proofs.Lists.{of_map}
-use Rattle.process.specs.declared.Target.{Target}
-use Rattle.orders.specs.declared.Order.{Order}
 use Rattle.orders.specs.Orders.{standing_of}
 use Rattle.orders.specs.Cancel.{matches_of, how_many_of}
 use Rattle.orders.proofs.Orders.how_many.Invariants.{counting}

@@ -1,12 +1,10 @@
 use mathlib.Core.Path.{◌≡◌, ◌∙◌, refl, ap, sym}
-use Prim.Native.Nat.{ℕ, ◌≤◌, ◌-◌}
+use Prim.Native.Nat.{ℕ, ◌≤◌}
 use native.Mathlib.Omega.{arith}
 use borrow.Author.Rules.{rules}
-use lib.ListN.{length, take, drop}
-use Rattle.common.specs.Fold.{fold_of}
+use lib.ListN.{length, take}
 use Rattle.common.proofs.Fold.{walk_turn, walk_end}
 use Rattle.common.proofs.Lists.{of_map}
-use Rattle.day.specs.TimeOfDay.{day}
 use Rattle.orders.specs.Orders.{standing_of}
 use Rattle.orders.specs.Advance.{next_due, next_due_of}
 use Rattle.orders.proofs.Walks.{nearing, nearing_due}

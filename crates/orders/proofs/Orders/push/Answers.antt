@@ -1,7 +1,6 @@
 use mathlib.Core.Path.{sym}
 use native.Mathlib.Omega.{arith}
 use Rattle.orders.proofs.Standing.{push_room, push_full}
-use borrow.Author.Rules.{rules}
 use Rattle.orders.proofs.Orders.push.Goals as goal
 
 pub returns-then-count-lt-MOST_ORDERS : goal.returns-then-count-lt-MOST_ORDERS

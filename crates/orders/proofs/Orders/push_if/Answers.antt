@@ -1,4 +1,3 @@
-use borrow.Author.Rules.{rules}
 use Rattle.orders.proofs.Orders.push_if.Goals as goal
 
 pub returns-then-stays : goal.returns-then-stays

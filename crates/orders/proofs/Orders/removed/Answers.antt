@@ -1,6 +1,5 @@
 use borrow.Author.Tests.{eq-eqb, ne_eqb}
 use Rattle.orders.specs.Cancel.{removed_of}
-use borrow.Author.Rules.{rules}
 use Rattle.orders.proofs.Orders.removed.Goals as goal
 
 pub returns-then-self-eq0 : goal.returns-then-self-eq0

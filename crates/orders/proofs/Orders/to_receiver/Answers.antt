@@ -1,4 +1,3 @@
-use borrow.Author.Rules.{rules}
 use Rattle.orders.proofs.Orders.to_receiver.Goals as goal
 
 pub returns-in-All : goal.returns-in-All

@@ -1,19 +1,16 @@
 use mathlib.Core.Path.{◌≡◌, ◌∙◌, ap, sym}
 use mathlib.Core.Bool.{Bool, not}
-use Prim.Native.Nat.{ℕ, ◌≤◌, ◌-◌}
+use Prim.Native.Nat.{ℕ, ◌≤◌}
 use native.Mathlib.Omega.{arith}
 use borrow.Author.Rules.{rules}
-use lib.ListN.{length, take, drop}
-use Rattle.common.specs.Fold.{fold_of}
+use lib.ListN.{length, take}
 use Rattle.common.specs.Keep.{keep_of}
 use Rattle.common.proofs.Fold.{walk_turn, walk_end}
 use Rattle.common.proofs.Lists.{of_map}
-use Rattle.process.specs.declared.Target.{Target}
 use Rattle.orders.specs.declared.Order.{Order}
-use Rattle.orders.specs.declared.Orders.{Orders}
-use Rattle.orders.specs.Orders.{none_of, orders_of, standing_of}
+use Rattle.orders.specs.Orders.{orders_of, standing_of}
 use Rattle.orders.specs.Cancel.{matches_of, without_of}
-use Rattle.orders.proofs.Walks.{pushing, pushing_lefts, staying, lefts_keep}
+use Rattle.orders.proofs.Walks.{pushing_lefts, staying, lefts_keep}
 use Rattle.orders.proofs.Orders.without.Invariants.{keeping}
 use Rattle.orders.proofs.Orders.without.Goals.{Start}
 use Rattle.orders.proofs.Orders.without.Goals as goal

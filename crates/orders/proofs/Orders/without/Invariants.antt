@@ -1,19 +1,14 @@
-use mathlib.Core.Path.{◌≡◌, ◌∙◌, ap, sym}
-use mathlib.Core.Bool.{Bool, not}
+use mathlib.Core.Path.{◌≡◌}
+use mathlib.Core.Bool.{not}
 use Prim.Native.Nat.{ℕ, ◌≤◌, ◌-◌}
-use native.Mathlib.Omega.{arith}
-use borrow.Author.Rules.{rules}
-use lib.ListN.{length, take, drop}
+use lib.ListN.{take, drop}
 use Rattle.common.specs.Fold.{fold_of}
-use Rattle.common.specs.Keep.{keep_of}
-use Rattle.common.proofs.Fold.{walk_turn, walk_end}
-use Rattle.common.proofs.Lists.{of_map}
 use Rattle.process.specs.declared.Target.{Target}
 use Rattle.orders.specs.declared.Order.{Order}
 use Rattle.orders.specs.declared.Orders.{Orders}
-use Rattle.orders.specs.Orders.{none_of, orders_of, standing_of}
-use Rattle.orders.specs.Cancel.{matches_of, without_of}
-use Rattle.orders.proofs.Walks.{pushing, pushing_lefts, staying, lefts_keep}
+use Rattle.orders.specs.Orders.{none_of}
+use Rattle.orders.specs.Cancel.{matches_of}
+use Rattle.orders.proofs.Walks.{pushing, staying}
 use Rattle.orders.proofs.Orders.without.Given as goal
 
 -- one turn keeps an order that does not match

@@ -1,6 +1,5 @@
-use mathlib.Core.Logic.{⊎_elim}
 use mathlib.Core.Path.{◌≡◌, ◌∙◌, ap, sym, subst}
-use Prim.Native.Nat.{ℕ, ◌≤◌, ◌<◌, ◌-◌, ◌+◌}
+use Prim.Native.Nat.{ℕ, ◌≤◌, ◌<◌, ◌+◌}
 use native.Mathlib.Omega.{arith}
 use borrow.Author.Rules.{rules}
 use lib.ListN.{length, take, length-take}
@@ -32,14 +31,14 @@ loop-at-preserved c =
     let place = start.args.place in
     let turned : (c.if-at-place.left.count ≤ loop.at + 1) × (c.if-at-place.left ≡ orders_of (without_at place (take (loop.at + 1) (take most.result start.args.self.places)))) =
     elim c.if-at-place.branch [
-      then-at-place w ↦ (
+      | then-at-place w ↦ (
         subst (λ (o : Orders). o.count ≤ loop.at + 1) (sym w.left-is) (omega arith),
         w.left-is ∙ turn_there place start.args.self.places most.result loop.at _ test within loop.left loop.invariant.2 room w.if-at-place.true,
       )
       | else-at-place w ↦ (
         subst (λ (o : Orders). o.count ≤ loop.at + 1) (sym w.left-is) (omega arith),
         w.left-is ∙ loop.invariant.2
-        ∙ ap orders_of (sym (turn_here place start.args.self.places most.result loop.at no_order test within w.if-at-place.false)),
+            ∙ ap orders_of (sym (turn_here place start.args.self.places most.result loop.at no_order test within w.if-at-place.false)),
       )
     ] in (
       omega (arith, test),

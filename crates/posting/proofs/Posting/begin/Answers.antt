@@ -1,5 +1,4 @@
 use Rattle.posting.specs.Posting.{begin_of}
-use borrow.Author.Rules.{rules}
 use Rattle.posting.proofs.Posting.begin.Goals as goal
 
 pub returns : goal.returns

@@ -1,5 +1,4 @@
 use mathlib.Core.Path.{◌∙◌, sym}
-use borrow.Author.Rules.{rules}
 use Rattle.process.proofs.Delivering.{deliver_next}
 use Rattle.process.proofs.Process.deliver.Goals as goal
 

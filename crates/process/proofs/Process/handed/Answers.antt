@@ -1,5 +1,4 @@
 use Rattle.process.specs.Process.{handed_of}
-use borrow.Author.Rules.{rules}
 use Rattle.process.proofs.Process.handed.Goals as goal
 
 pub returns : goal.returns

@@ -1,5 +1,4 @@
 use Rattle.process.specs.Process.{moved_of}
-use borrow.Author.Rules.{rules}
 use Rattle.process.proofs.Process.moved.Goals as goal
 
 pub returns-in-To : goal.returns-in-To

@@ -1,5 +1,4 @@
 use Rattle.process.specs.Process.{stored_of}
-use borrow.Author.Rules.{rules}
 use Rattle.process.proofs.Process.stored.Goals as goal
 
 pub returns-then-put : goal.returns-then-put

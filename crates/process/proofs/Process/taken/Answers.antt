@@ -1,4 +1,3 @@
-use borrow.Author.Rules.{rules}
 use Rattle.process.specs.Process.{taken_of}
 use Rattle.process.proofs.Process.taken.Goals as goal
 

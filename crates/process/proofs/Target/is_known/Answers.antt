@@ -1,4 +1,3 @@
-use borrow.Author.Rules.{rules}
 use Rattle.process.proofs.Target.is_known.Goals as goal
 
 pub returns-in-All : goal.returns-in-All

@@ -6,7 +6,7 @@ use Rattle.common.proofs.Lists.{of_map}
 use Rattle.process.specs.declared.buffers.Message.{Message}
 use Rattle.process.specs.Messages.{zeros}
 use mathlib.Core.Path.{◌≡◌, ◌∙◌, refl, ap}
-use Prim.Native.Nat.{ℕ, ◌≤◌, ◌-◌}
+use Prim.Native.Nat.{ℕ}
 use native.Mathlib.Omega.{arith}
 use Rattle.common.proofs.Shift.{shifted, shifted_suc, shifted_all}
 use Rattle.process.proofs.buffers.shifted.Goals.{Start}

@@ -1,4 +1,3 @@
-use borrow.Author.Rules.{rules}
 use Rattle.rtms.proofs.pool_calls.lent.Goals as goal
 
 pub returns : goal.returns

@@ -1,5 +1,4 @@
 use mathlib.Core.Path.{◌∙◌, sym}
-use borrow.Author.Rules.{rules}
 use Rattle.rtms.specs.Calls.{POOLCHECK}
 use Rattle.rtms.proofs.Guarding.{guarded_sound, guarded_broken}
 use Rattle.rtms.proofs.pool_calls.pool_check.Goals as goal

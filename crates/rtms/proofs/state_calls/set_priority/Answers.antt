@@ -1,5 +1,4 @@
 use mathlib.Core.Path.{◌∙◌, sym}
-use borrow.Author.Rules.{rules}
 use Rattle.rtms.specs.Calls.{SETPRIORITY}
 use Rattle.rtms.proofs.Guarding.{guarded_sound, guarded_broken}
 use Rattle.rtms.proofs.state_calls.set_priority.Goals as goal

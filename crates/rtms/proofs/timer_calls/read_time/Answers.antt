@@ -1,5 +1,4 @@
 use mathlib.Core.Path.{◌∙◌, sym}
-use borrow.Author.Rules.{rules}
 use Rattle.rtms.specs.Calls.{READTIME}
 use Rattle.rtms.proofs.Guarding.{guarded_sound, guarded_broken}
 use Rattle.rtms.proofs.timer_calls.read_time.Goals as goal

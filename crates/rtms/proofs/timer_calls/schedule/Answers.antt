@@ -1,5 +1,4 @@
 use mathlib.Core.Path.{◌∙◌, sym}
-use borrow.Author.Rules.{rules}
 use Rattle.rtms.specs.Calls.{SCHEDULE}
 use Rattle.rtms.proofs.Guarding.{guarded_sound, guarded_broken}
 use Rattle.rtms.proofs.timer_calls.schedule.Goals as goal

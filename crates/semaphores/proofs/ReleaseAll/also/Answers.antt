@@ -1,4 +1,3 @@
-use borrow.Author.Rules.{rules}
 use Rattle.semaphores.specs.Semaphores.{also_of}
 use Rattle.semaphores.proofs.ReleaseAll.also.Goals as goal
 

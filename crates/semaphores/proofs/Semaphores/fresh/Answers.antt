@@ -1,4 +1,3 @@
-use borrow.Author.Rules.{rules}
 use Rattle.semaphores.specs.Semaphores.{fresh_of}
 use Rattle.semaphores.proofs.Semaphores.fresh.Goals as goal
 

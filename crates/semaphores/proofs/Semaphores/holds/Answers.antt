@@ -1,5 +1,4 @@
 use mathlib.Core.Path.{sym, ◌∙◌}
-use borrow.Author.Rules.{rules}
 use Rattle.semaphores.specs.Semaphores.{holds_of, holder_of}
 use Rattle.semaphores.proofs.Numbers.{usable_below}
 use Rattle.semaphores.proofs.Semaphores.holds.Goals as goal

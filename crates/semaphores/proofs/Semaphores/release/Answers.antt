@@ -1,7 +1,6 @@
 use mathlib.Core.Path.{sym, ◌∙◌}
 use Prim.Native.Nat.{◌<◌}
 use native.Mathlib.Omega.{arith}
-use borrow.Author.Rules.{rules}
 use Rattle.semaphores.specs.Semaphores.{release_of}
 use Rattle.semaphores.proofs.Numbers.{usable_below, holds_usable}
 use Rattle.semaphores.proofs.Semaphores.release.Goals.{After-queue-1}

@@ -1,13 +1,9 @@
-use mathlib.Core.Logic.{⊎_elim}
 use mathlib.Core.Path.{◌≡◌, ◌∙◌, refl, ap, ap₂, sym}
-use Prim.Native.Nat.{ℕ, suc, ◌+◌, ◌≤◌, ◌-◌}
+use Prim.Native.Nat.{ℕ, suc, ◌+◌, ◌-◌}
 use native.Mathlib.Omega.{arith}
 use native.Mathlib.Numerals.{add-one}
-use borrow.Author.Rules.{rules}
 use borrow.Author.Tests.{ne_eqb}
-use Rattle.semaphores.specs.declared.Semaphores.{Semaphores}
 use Rattle.semaphores.specs.declared.ReleaseAll.{ReleaseAll}
-use Rattle.semaphores.specs.declared.queues.Levels.{Levels}
 use Rattle.semaphores.specs.Semaphores.{holder_of, also_of}
 use Rattle.semaphores.proofs.ReleasingAll.{also_passed, finished_of, finished_none, finished_turn, finished_all}
 use Rattle.semaphores.proofs.Semaphores.release_all.Invariants.{so_far}
@@ -27,9 +23,9 @@ loop-number-preserved c =
     let left : suc (96 - (number + 1)) ≡ 96 - number = omega arith in
     let turned : so_far c.if-semaphores-number.woken c.if-semaphores-number.semaphores ≡ also_of all level number =
     elim c.if-semaphores-number.branch [
-      then-semaphores-number w ↦ ap₂ so_far w.woken-is w.semaphores-is ∙ w.also-all.ensures
+      | then-semaphores-number w ↦ ap₂ so_far w.woken-is w.semaphores-is ∙ w.also-all.ensures
       | else-semaphores-number w ↦
-        ap₂ so_far w.woken-is w.semaphores-is ∙ sym (also_passed all level number (ne_eqb _ _ w.if-semaphores-number.false))
+          ap₂ so_far w.woken-is w.semaphores-is ∙ sym (also_passed all level number (ne_eqb _ _ w.if-semaphores-number.false))
     ] in (
       omega arith,
       rw (turned, add-one)

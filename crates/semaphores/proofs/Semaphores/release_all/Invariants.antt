@@ -1,15 +1,9 @@
-use mathlib.Core.Logic.{⊎_elim}
-use mathlib.Core.Path.{◌≡◌, ◌∙◌, refl, ap, ap₂, sym}
-use Prim.Native.Nat.{ℕ, suc, ◌+◌, ◌≤◌, ◌-◌}
-use native.Mathlib.Omega.{arith}
-use native.Mathlib.Numerals.{add-one}
-use borrow.Author.Rules.{rules}
-use borrow.Author.Tests.{ne_eqb}
+use mathlib.Core.Path.{◌≡◌}
+use Prim.Native.Nat.{◌≤◌, ◌-◌}
 use Rattle.semaphores.specs.declared.Semaphores.{Semaphores}
 use Rattle.semaphores.specs.declared.ReleaseAll.{ReleaseAll}
 use Rattle.semaphores.specs.declared.queues.Levels.{Levels}
-use Rattle.semaphores.specs.Semaphores.{holder_of, also_of}
-use Rattle.semaphores.proofs.ReleasingAll.{also_passed, finished_of, finished_none, finished_turn, finished_all}
+use Rattle.semaphores.proofs.ReleasingAll.{finished_of}
 use Rattle.semaphores.proofs.Semaphores.release_all.Given as goal
 
 -- as far as the numbers have been released

@@ -1,5 +1,4 @@
 use Rattle.table.specs.Table.{fresh_of}
-use borrow.Author.Rules.{rules}
 use Rattle.table.proofs.Table.fresh.Goals as goal
 
 pub returns : goal.returns

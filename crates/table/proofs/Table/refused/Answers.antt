@@ -1,5 +1,4 @@
 use Rattle.table.specs.Table.{refused_of}
-use borrow.Author.Rules.{rules}
 use Rattle.table.proofs.Table.refused.Goals as goal
 
 pub returns : goal.returns

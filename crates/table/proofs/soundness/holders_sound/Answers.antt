@@ -1,11 +1,8 @@
 use mathlib.Core.Path.{◌≡◌, refl, sym}
-use Prim.Native.Nat.{◌≤◌, ◌-◌}
 use native.Mathlib.Omega.{arith}
-use lib.ListN.{get_or}
 use Rattle.common.specs.Every.{every_below}
 use Rattle.common.proofs.Every.{every_turn}
-use Rattle.table.specs.Sound.{holder_sound, holders_sound}
-use borrow.Author.Rules.{rules}
+use Rattle.table.specs.Sound.{holders_sound}
 use Rattle.table.proofs.soundness.holders_sound.Goals as goal
 
 pub loop-number-init : goal.loop-number-init

@@ -1,11 +1,8 @@
-use mathlib.Core.Path.{◌≡◌, refl, sym}
+use mathlib.Core.Path.{◌≡◌}
 use Prim.Native.Nat.{◌≤◌, ◌-◌}
-use native.Mathlib.Omega.{arith}
 use lib.ListN.{get_or}
 use Rattle.common.specs.Every.{every_below}
-use Rattle.common.proofs.Every.{every_turn}
-use Rattle.table.specs.Sound.{holder_sound, holders_sound}
-use borrow.Author.Rules.{rules}
+use Rattle.table.specs.Sound.{holder_sound}
 use Rattle.table.proofs.soundness.holders_sound.Given as goal
 
 abbrev pub invariant-loop-number : goal.invariant-loop-number

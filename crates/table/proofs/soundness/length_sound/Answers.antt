@@ -1,4 +1,3 @@
-use borrow.Author.Rules.{rules}
 use Rattle.table.proofs.soundness.length_sound.Goals as goal
 
 pub returns : goal.returns

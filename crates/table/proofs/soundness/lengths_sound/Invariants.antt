@@ -1,11 +1,8 @@
-use mathlib.Core.Path.{◌≡◌, refl, sym}
+use mathlib.Core.Path.{◌≡◌}
 use Prim.Native.Nat.{◌≤◌, ◌-◌}
-use native.Mathlib.Omega.{arith}
 use lib.ListN.{get_or}
 use Rattle.common.specs.Every.{every_below}
-use Rattle.common.proofs.Every.{every_turn}
-use Rattle.table.specs.Sound.{length_sound, lengths_sound}
-use borrow.Author.Rules.{rules}
+use Rattle.table.specs.Sound.{length_sound}
 use Rattle.table.proofs.soundness.lengths_sound.Given as goal
 
 abbrev pub invariant-loop-level : goal.invariant-loop-level

@@ -1,5 +1,4 @@
 use Rattle.table.specs.Sound.{level_sound}
-use borrow.Author.Rules.{rules}
 use Rattle.table.proofs.soundness.level_sound.Goals as goal
 
 pub returns : goal.returns

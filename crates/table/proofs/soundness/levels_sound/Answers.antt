@@ -1,11 +1,8 @@
 use mathlib.Core.Path.{◌≡◌, refl, sym}
-use Prim.Native.Nat.{◌≤◌, ◌-◌}
 use native.Mathlib.Omega.{arith}
-use lib.ListN.{get_or}
 use Rattle.common.specs.Every.{every_below}
 use Rattle.common.proofs.Every.{every_turn}
-use Rattle.table.specs.Sound.{no_process, level_sound, levels_sound}
-use borrow.Author.Rules.{rules}
+use Rattle.table.specs.Sound.{levels_sound}
 use Rattle.table.proofs.soundness.levels_sound.Goals as goal
 
 pub loop-level-init : goal.loop-level-init

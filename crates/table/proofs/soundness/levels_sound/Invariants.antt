@@ -1,11 +1,8 @@
-use mathlib.Core.Path.{◌≡◌, refl, sym}
+use mathlib.Core.Path.{◌≡◌}
 use Prim.Native.Nat.{◌≤◌, ◌-◌}
-use native.Mathlib.Omega.{arith}
 use lib.ListN.{get_or}
 use Rattle.common.specs.Every.{every_below}
-use Rattle.common.proofs.Every.{every_turn}
-use Rattle.table.specs.Sound.{no_process, level_sound, levels_sound}
-use borrow.Author.Rules.{rules}
+use Rattle.table.specs.Sound.{no_process, level_sound}
 use Rattle.table.proofs.soundness.levels_sound.Given as goal
 
 abbrev pub invariant-loop-level : goal.invariant-loop-level

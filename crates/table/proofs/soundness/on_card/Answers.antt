@@ -1,7 +1,6 @@
 use native.Mathlib.Omega.{arith}
 use Rattle.table.proofs.Configured.{inputs_range}
 use Rattle.table.specs.Sound.{on_card}
-use borrow.Author.Rules.{rules}
 use Rattle.table.proofs.soundness.on_card.Goals as goal
 
 pub overflow_sub-last : goal.overflow_sub-last

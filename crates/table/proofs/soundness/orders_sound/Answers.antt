@@ -1,11 +1,9 @@
 use mathlib.Core.Path.{◌≡◌, refl, sym}
-use Prim.Native.Nat.{◌≤◌, ◌-◌, min}
+use Prim.Native.Nat.{min}
 use native.Mathlib.Omega.{arith}
-use lib.ListN.{get_or}
 use Rattle.common.specs.Every.{every_below}
 use Rattle.common.proofs.Every.{every_turn}
-use Rattle.table.specs.Sound.{no_order, order_sound, orders_sound}
-use borrow.Author.Rules.{rules}
+use Rattle.table.specs.Sound.{orders_sound}
 use Rattle.table.proofs.soundness.orders_sound.Goals as goal
 
 pub loop-at-init : goal.loop-at-init

@@ -1,11 +1,8 @@
-use mathlib.Core.Path.{◌≡◌, refl, sym}
-use Prim.Native.Nat.{◌≤◌, ◌-◌, min}
-use native.Mathlib.Omega.{arith}
+use mathlib.Core.Path.{◌≡◌}
+use Prim.Native.Nat.{◌≤◌, ◌-◌}
 use lib.ListN.{get_or}
 use Rattle.common.specs.Every.{every_below}
-use Rattle.common.proofs.Every.{every_turn}
-use Rattle.table.specs.Sound.{no_waiter, waiter_sound, queue_sound}
-use borrow.Author.Rules.{rules}
+use Rattle.table.specs.Sound.{no_waiter, waiter_sound}
 use Rattle.table.proofs.soundness.queue_sound.Given as goal
 
 abbrev pub invariant-loop-at : goal.invariant-loop-at

@@ -1,5 +1,4 @@
 use Rattle.table.specs.Sound.{sound_of}
-use borrow.Author.Rules.{rules}
 use Rattle.table.proofs.soundness.sound.Goals as goal
 
 pub returns : goal.returns

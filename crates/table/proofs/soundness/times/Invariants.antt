@@ -1,18 +1,10 @@
-use mathlib.Core.Path.{◌≡◌, ◌∙◌, refl, ap, sym}
+use mathlib.Core.Path.{◌≡◌}
 use Prim.Native.Nat.{ℕ, ◌+◌, ◌≤◌, ◌-◌}
-use native.Mathlib.Omega.{arith}
-use native.Mathlib.Nat.{zero-add}
-use lib.ListN.{length, get_or, take, drop}
+use lib.ListN.{take, drop}
 use Rattle.common.specs.Choice.{pick}
 use Rattle.common.specs.Fold.{fold_of}
-use Rattle.common.specs.Keep.{keep_of}
-use Rattle.common.proofs.Fold.{walk_turn, walk_end}
-use Rattle.common.proofs.Keep.{count_keep, one_at_most}
-use Rattle.common.proofs.Lists.{of_map}
 use Rattle.semaphores.specs.declared.queues.Waiter.{Waiter}
-use Rattle.semaphores.specs.Queues.{list_of}
-use Rattle.table.specs.Sound.{no_waiter, at_level, times_of}
-use borrow.Author.Rules.{rules}
+use Rattle.table.specs.Sound.{at_level}
 use Rattle.table.proofs.soundness.times.Given as goal
 
 -- one turn counts a waiter of the level

@@ -2,7 +2,6 @@ use mathlib.Core.Path.{◌∙◌, sym}
 use native.Mathlib.Omega.{arith}
 use Rattle.semaphores.proofs.Numbers.{usable_below}
 use Rattle.table.specs.Sound.{waiter_sound}
-use borrow.Author.Rules.{rules}
 use Rattle.table.proofs.soundness.waiter_sound.Goals as goal
 
 pub bounds-holders-at : goal.bounds-holders-at

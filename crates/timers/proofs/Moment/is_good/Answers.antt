@@ -1,4 +1,3 @@
-use borrow.Author.Rules.{rules}
 use Rattle.timers.proofs.Moment.is_good.Goals as goal
 
 pub returns-in-After : goal.returns-in-After

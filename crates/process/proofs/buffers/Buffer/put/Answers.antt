@@ -1,7 +1,6 @@
 use mathlib.Core.Path.{sym}
 use native.Mathlib.Omega.{arith}
 use Rattle.process.proofs.Places.{put_room, put_full}
-use borrow.Author.Rules.{rules}
 use Rattle.process.proofs.buffers.Buffer.put.Goals as goal
 
 pub returns-then-count-least : goal.returns-then-count-least

@@ -1,6 +1,5 @@
 use mathlib.Core.Path.{sym}
 use Rattle.process.proofs.Places.{rest_none, rest_some}
-use borrow.Author.Rules.{rules}
 use Rattle.process.proofs.buffers.Buffer.rest.Goals as goal
 
 pub returns-then-count-eq0 : goal.returns-then-count-eq0

@@ -1,4 +1,3 @@
-use borrow.Author.Rules.{rules}
 use Rattle.process.proofs.states.State.is.Goals as goal
 
 pub returns : goal.returns

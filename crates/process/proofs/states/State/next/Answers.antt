@@ -1,7 +1,6 @@
 use Prim.Native.Nat.{◌<◌}
 use native.Mathlib.Omega.{arith}
 use Rattle.process.proofs.Moves.{row_known, column_known, entry_next}
-use borrow.Author.Rules.{rules}
 use Rattle.process.proofs.states.State.next.Goals.{After-column-column}
 use Rattle.process.proofs.states.State.next.Goals as goal
 

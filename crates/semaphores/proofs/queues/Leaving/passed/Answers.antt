@@ -1,6 +1,5 @@
 use mathlib.Core.Path.{◌≡◌}
 use mathlib.Core.Bool.{true, not, ◌||◌}
-use borrow.Author.Rules.{rules}
 use Rattle.semaphores.specs.Queues.{waits_for, passed_of}
 use Rattle.semaphores.proofs.queues.Leaving.passed.Goals as goal
 

@@ -1,4 +1,3 @@
-use borrow.Author.Rules.{rules}
 use borrow.Author.Tests.{lt-ltb, le-ltb}
 use Rattle.semaphores.specs.Queues.{with_of}
 use Rattle.semaphores.proofs.queues.Levels.with.Goals as goal

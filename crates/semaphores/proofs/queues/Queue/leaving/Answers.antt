@@ -1,9 +1,7 @@
 use mathlib.Core.Path.{◌≡◌, ◌∙◌, refl, sym}
-use Prim.Native.Nat.{◌≤◌, ◌-◌}
 use native.Mathlib.Omega.{arith}
 use borrow.Author.Rules.{rules}
-use lib.ListN.{length, take, drop}
-use Rattle.common.specs.Fold.{fold_of}
+use lib.ListN.{length}
 use Rattle.common.proofs.Fold.{walk_turn, walk_end}
 use Rattle.common.proofs.Lists.{of_map}
 use Rattle.semaphores.specs.Queues.{nobody, passed_of, list_of}

@@ -1,13 +1,8 @@
-use mathlib.Core.Path.{◌≡◌, ◌∙◌, refl, sym}
+use mathlib.Core.Path.{◌≡◌}
 use Prim.Native.Nat.{◌≤◌, ◌-◌}
-use native.Mathlib.Omega.{arith}
-use borrow.Author.Rules.{rules}
-use lib.ListN.{length, take, drop}
+use lib.ListN.{take, drop}
 use Rattle.common.specs.Fold.{fold_of}
-use Rattle.common.proofs.Fold.{walk_turn, walk_end}
-use Rattle.common.proofs.Lists.{of_map}
-use Rattle.semaphores.specs.Queues.{nobody, passed_of, list_of}
-use Rattle.semaphores.proofs.Waiting.{leaving_fold}
+use Rattle.semaphores.specs.Queues.{passed_of}
 use Rattle.semaphores.proofs.queues.Queue.leaving.Given as goal
 
 -- those that are not looked at yet lead from here to where all lead from the start

@@ -1,4 +1,3 @@
-use borrow.Author.Rules.{rules}
 use borrow.Author.Tests.{lt-ltb, le-ltb}
 use Rattle.semaphores.specs.Queues.{push_of}
 use Rattle.semaphores.proofs.queues.Queue.push.Goals as goal

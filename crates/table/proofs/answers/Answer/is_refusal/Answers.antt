@@ -1,5 +1,4 @@
 use Rattle.table.specs.Answers.{refusal_of}
-use borrow.Author.Rules.{rules}
 use Rattle.table.proofs.answers.Answer.is_refusal.Goals as goal
 
 pub returns : goal.returns

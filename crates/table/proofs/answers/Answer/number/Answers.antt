@@ -1,4 +1,3 @@
-use borrow.Author.Rules.{rules}
 use Rattle.table.proofs.answers.Answer.number.Goals as goal
 
 pub returns-in-Ok : goal.returns-in-Ok

@@ -1,4 +1,3 @@
-use borrow.Author.Rules.{rules}
 use Rattle.table.specs.Configuration.{first_place}
 use Rattle.table.proofs.configs.Config.first_place.Goals as goal
 

@@ -1,5 +1,4 @@
 use Rattle.table.specs.Configuration.{good_of}
-use borrow.Author.Rules.{rules}
 use Rattle.table.proofs.configs.Config.good.Goals as goal
 
 pub returns : goal.returns

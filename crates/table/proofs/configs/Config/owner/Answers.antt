@@ -1,4 +1,3 @@
-use borrow.Author.Rules.{rules}
 use Rattle.table.specs.Configuration.{owner_of}
 use Rattle.table.proofs.configs.Config.owner.Goals as goal
 

@@ -1,4 +1,3 @@
-use borrow.Author.Rules.{rules}
 use Rattle.table.specs.Configuration.{privilege_of}
 use Rattle.table.proofs.configs.Config.privilege.Goals as goal
 

@@ -1,6 +1,5 @@
 use borrow.Author.Tests.{lt-ltb, le-ltb}
 use Rattle.table.specs.Wakes.{wake_push_of}
-use borrow.Author.Rules.{rules}
 use Rattle.table.proofs.wakes.Wakes.push.Goals as goal
 
 pub returns-then-count-lt12 : goal.returns-then-count-lt12
