@@ -16,7 +16,6 @@ use Rattle.semaphores.specs.declared.Requested.{Requested}
 use Rattle.semaphores.specs.declared.Requested.TheVariants.{Unusable, Held, Waits}
 use Rattle.semaphores.specs.declared.Released.{Released}
 use Rattle.semaphores.specs.declared.Released.TheVariants.{NotHolder, Freed, HandedTo}
-use Rattle.semaphores.specs.declared.Released.TheVariants as Released
 use Rattle.semaphores.specs.declared.Semaphores.{Semaphores}
 use Rattle.semaphores.specs.Queues.{list_of, leaving_of}
 use Rattle.semaphores.specs.Semaphores.{usable_of, requested_number, released_number, request_of as requests_of, holds_of, not_held_of, release_of as releases_of, woken_of, released_from, woken_from}

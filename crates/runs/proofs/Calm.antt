@@ -17,7 +17,6 @@ use Rattle.semaphores.specs.declared.Requested.{Requested}
 use Rattle.semaphores.specs.declared.Requested.TheVariants.{Unusable, Held, Waits}
 use Rattle.semaphores.specs.declared.Released.{Released}
 use Rattle.semaphores.specs.declared.Released.TheVariants.{NotHolder, Freed, HandedTo}
-use Rattle.semaphores.specs.declared.Released.TheVariants as Released
 use Rattle.semaphores.specs.declared.Semaphores.{Semaphores}
 use Rattle.semaphores.specs.Semaphores.{request_of as requests_of, release_of as releases_of}
 use Rattle.table.specs.declared.answers.Answer.TheVariants.{ReceiverBufferOverflow, Ok, NoPoolInit, PoolOverflow, DataLengthFault, PoolLengthFault}

@@ -1,7 +1,6 @@
 -- What 37 tells of a semaphore is what is seen of it from outside. Assumes nothing.
 use mathlib.Core.Path.{◌≡◌, ◌∙◌, refl, sym, ap, subst}
 use mathlib.Core.Bool.{true, false, ◌||◌}
-use mathlib.Core.List.{List}
 use mathlib.Core.Logic.{◌⊎◌, inl, inr}
 use Prim.Native.Nat.{ℕ, ◌<◌}
 use native.Mathlib.Omega.{arith}
@@ -14,7 +13,6 @@ use Rattle.common.proofs.Every.{every_below_lem}
 use Rattle.semaphores.specs.declared.Semaphores.{Semaphores}
 use Rattle.semaphores.specs.Semaphores.{usable_of, free, holder_of, holds_of, not_held_of, release_of as releases_of, released_number}
 use Rattle.semaphores.proofs.Numbers.{usable_below}
-use Rattle.table.specs.declared.configs.Config.{Config}
 use Rattle.table.specs.declared.Table.{Table}
 use Rattle.table.specs.Answers.{number_of}
 use Rattle.table.specs.Configuration.{configured_of}
@@ -23,12 +21,12 @@ use Rattle.table.specs.Words.{minus_one}
 use Rattle.table.proofs.Configured.{configured_level}
 use Rattle.calls.specs.Effects.{Effect}
 use Rattle.calls.proofs.Keeping.{Steady}
-use Rattle.holding.specs.Holding.{released_of, release_of}
-use Rattle.rtms.specs.Calls.{Call, RELSEMA, done_by}
+use Rattle.holding.specs.Holding.{release_of}
+use Rattle.rtms.specs.Calls.{RELSEMA}
 use Rattle.rtms.specs.Refusals.{TellsHolder}
 use Rattle.rtms.proofs.Refusing.{told_holder}
 use Rattle.runs.specs.Runs.{run_of}
-use Rattle.runs.specs.Sight.{Sight, AsSeen, sight_at, TellsAsSeen, ToldAsSeen, ReleasedAsSeen}
+use Rattle.runs.specs.Sight.{Sight, AsSeen, sight_at, ToldAsSeen, ReleasedAsSeen}
 use Rattle.runs.proofs.Acting.{by_caller_lem, gave_answer}
 use Rattle.runs.proofs.Seeing.{held_number}
 use Rattle.runs.proofs.Sights.{held_as_seen}

@@ -27,7 +27,7 @@ use Rattle.calls.proofs.Keeping.{Steady}
 use Rattle.rtms.specs.Calls.{Call, REQSEMA}
 use Rattle.runs.specs.Runs.{leaves, after_of, run_of, seen_as, seen_of}
 use Rattle.runs.specs.Sight.{Act, Sight, sight_after, sight_of, released_by, is_release, releases_seen, AsSeen}
-use Rattle.runs.specs.Turns.{asking, asked_at, sight_then, Waits, Obtains, TurnsAreKept}
+use Rattle.runs.specs.Turns.{asking, asked_at, sight_then, Obtains, TurnsAreKept}
 use Rattle.runs.proofs.Acting.{step_deed, HasToWait, step_waits, waiting_WR}
 use Rattle.runs.proofs.Seeing.{Way, turned, requested, way_of}
 use Rattle.runs.proofs.Sights.{step_seen, steps_seen, held_as_seen}
