@@ -1,5 +1,4 @@
 use mathlib.Core.Path.{ap}
-use borrow.Author.Rules.{rules}
 use Rattle.day.specs.declared.Fields.{Fields}
 use Rattle.exports.proofs.rtms_time_fields.Goals as goal
 
