@@ -81,6 +81,6 @@ fn print_all<R: Read>(rt: &impl Print, reader: &mut R, space: &mut [u8], out: &m
 fn main(rt: HostRuntime) {
     let mut space: [u8; 70_000] = [0; 70_000];
     let mut room = printing::room();
-    let mut reader = rt.reader();
+    let mut reader = rt.stdin();
     print_all(&rt, &mut reader, &mut space, &mut room);
 }

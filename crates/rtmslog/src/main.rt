@@ -57,7 +57,7 @@ fn main(rt: HostRuntime) {
     // One byte more than the largest log has is enough to know that an input is too long.
     let mut space: [u8; 65_521] = [0; 65_521];
     let mut room = printing::room();
-    let mut reader = rt.reader();
+    let mut reader = rt.stdin();
     let read = read_all(&mut reader, &mut space);
     if read.failed {
         return;
