@@ -2,85 +2,54 @@
 // frame k it prints a line `# k` and the log's listing.
 #![tactic(auto)]
 
-ghost use Rattle.std.specs.Prelude.{◌≡◌, length};
-
+use std::io;
 use std::io::Read;
 
 // The longest frame: longer than the largest log, so that logs that are too long can be tried.
 const MOST: usize = 70_000;
 
-// A frame's length, or that there is no more.
-#[derive(Clone, Copy)]
-enum Frame {
-    Bytes(usize),
-    None,
+// How many bytes the next frame has. At the end of the input there is none, which is an error as a failed read is.
+fn read_length<R: Read>(reader: &mut R) -> io::Result<usize> {
+    let mut head = [0; 4];
+    reader.read_exact(&mut head)?;
+    Ok(u32::from_le_bytes(head) as usize)
 }
 
-fn read_length<R: Read>(reader: &mut R) -> Frame {
-    let mut head: [u8; 4] = [0; 4];
-    if reader.read_exact(&mut head).is_err() {
-        return Frame::None;
-    }
-    let length = records::long(head[0], head[1], head[2], head[3]) as usize;
-    if length <= MOST {
-        Frame::Bytes(length)
-    } else {
-        Frame::None
-    }
-}
-
-// A frame's log and its listing. It answers whether the frame was whole and all could be written.
+// A frame's log and its listing, which is printed also where its heading could not be. An error is that the frame was not whole, or that not all
+// could be written.
 fn print_frame<R: Read>(
     rt: &impl Print,
     reader: &mut R,
-    index: u64,
-    bytes: usize,
-    space: &mut [u8],
+    index: u32,
+    log: &mut [u8],
     out: &mut [u8],
-) -> bool
-    ensures { (length space.new ≡ length space.old) × (length out.new ≡ length out.old) }
-{
-    if space.len() < bytes {
-        return false;
-    }
-    if reader.read_exact(&mut space[0..bytes]).is_err() {
-        return false;
-    }
-    let heading = println!(rt; "# {index}").is_ok();
-    let log: &[u8] = &space[..];
-    heading & printing::print(rt, &log[0..bytes], out)
+) -> io::Result<()> {
+    reader.read_exact(log)?;
+    let heading = println!(rt; "# {index}");
+    printing::print(rt, log, out)?;
+    heading
 }
 
-// One frame. It answers whether to go on.
-fn print_next<R: Read>(
+// Frame after frame, until there is no other or one is too long.
+fn print_all<R: Read>(
     rt: &impl Print,
     reader: &mut R,
-    index: u64,
     space: &mut [u8],
     out: &mut [u8],
-) -> bool
-    ensures { (length space.new ≡ length space.old) × (length out.new ≡ length out.old) }
-{
-    let frame = read_length(reader);
-    match frame {
-        Frame::Bytes(length) => print_frame(rt, reader, index, length, space, out),
-        Frame::None => false,
+) -> io::Result<()> {
+    for index in 0..u32::MAX {
+        let length = read_length(reader)?;
+        if space.len() < length {
+            return Ok(());
+        }
+        print_frame(rt, reader, index, &mut space[..length], out)?;
     }
+    Ok(())
 }
 
-// Frame after frame, while there are more.
-fn print_all<R: Read>(rt: &impl Print, reader: &mut R, space: &mut [u8], out: &mut [u8]) {
-    let mut index: u64 = 0;
-    let mut more = true;
-    while more & (index < 4_294_967_295) {
-        more = print_next(rt, reader, index, space, out);
-        index += 1;
-    }
-}
-
+// A frame that is not whole ends the run, and so does an output that is closed: there is nobody to tell.
 fn main(rt: HostRuntime) {
-    let mut space: [u8; 70_000] = [0; 70_000];
+    let mut space = [0; MOST];
     let mut room = printing::room();
-    let mut reader = rt.stdin();
-    print_all(&rt, &mut reader, &mut space, &mut room);
+    let _ = print_all(&rt, &mut rt.stdin(), &mut space, &mut room);
 }

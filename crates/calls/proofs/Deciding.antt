@@ -6,6 +6,7 @@ use Prim.Native.Nat.{ℕ, min}
 use native.Mathlib.Omega.{arith}
 use lib.ListN.{length, get_or}
 use lib.Seq.{set-get_or}
+use Rattle.std.specs.Prelude.{Ok, Err}
 use Rattle.common.proofs.Cases.{by_test}
 use Rattle.common.proofs.Lists.{get_or_within}
 use Rattle.process.specs.declared.Process.{Process}
@@ -17,12 +18,10 @@ use Rattle.table.specs.Configuration.{configured_of}
 use Rattle.table.specs.Wakes.{no_wakes_of}
 use Rattle.table.proofs.Configured.{configured_level}
 use Rattle.calls.specs.declared.Decided.{Decided}
-use Rattle.calls.specs.declared.Verdict.{Verdict}
-use Rattle.calls.specs.declared.Verdict.TheVariants.{Passed, Refused}
 use Rattle.calls.specs.Decisions.{decided, decided_by, told_of, decided_at}
 use Rattle.calls.specs.Effects.{Effect, nothing, refuse, outcome_of}
 use Rattle.calls.specs.Levels.{process_at, process_of}
-use Rattle.calls.specs.Verdicts.{Check, check, after, also_of, obeyed, by_caller, checked}
+use Rattle.calls.specs.Verdicts.{Checked, Check, check, after, also_of, obeyed, by_caller, checked}
 
 -- A level above 11 is not configured, so no call looks at its record: the code looks at the one at 11 instead, and puts it back. Of the place and the record
 -- there is what holds of a configured level and its own record, and what holds of any place and the record there where the level is not configured.
@@ -55,20 +54,20 @@ unfolding told_of outcome_of no_wakes_of
 decided_refused t at other answer = rw set-get_or
 
 -- by what the checks decide
-decided_verdict : (v : Verdict) (t : Table) (at : ℕ) (x : Decided) (effect : Effect) → decided_at t at x ≡ outcome_of effect
+decided_verdict : (v : Checked) (t : Table) (at : ℕ) (x : Decided) (effect : Effect) → decided_at t at x ≡ outcome_of effect
     → decided_at t at (decided_by v (process_of t at) x) ≡ outcome_of (obeyed v t effect)
 unfolding obeyed process_at
-decided_verdict Passed t at x effect obeys = obeys
-decided_verdict (Refused answer) t at x effect obeys = decided_refused t at fresh_of answer
+decided_verdict (Ok tt) t at x effect obeys = obeys
+decided_verdict (Err answer) t at x effect obeys = decided_refused t at fresh_of answer
 
 -- checks behind one that failed make no difference
-pub after_refused : (answer : Answer) (l : List Check) → after (Refused answer) l ≡ Refused answer
+pub after_refused : (answer : Answer) (l : List Check) → after (Err answer) l ≡ Err answer
 unfolding also_of
 after_refused answer [] = refl
 after_refused answer (c ∷ l) = after_refused answer l
 
 -- where the first fails, it refuses
-first_fails : (holds : Bool) (answer : Answer) (l : List Check) → holds ≡ false → after Passed (check holds answer ∷ l) ≡ Refused answer
+first_fails : (holds : Bool) (answer : Answer) (l : List Check) → holds ≡ false → after (Ok tt) (check holds answer ∷ l) ≡ Err answer
 unfolding also_of
 first_fails holds answer l fails = rw fails (after_refused answer l)
 
@@ -79,13 +78,13 @@ module _ (t : Table) (level : ℕ) (other : Process) (whole : length t.processes
 
   pub decided_call : decided_at t level (decide (process_of t level)) ≡ outcome_of effect
       → decided_at t (min level 11)
-      (decided_by (after Passed (checks (get_or t.processes (min level 11) other))) (get_or t.processes (min level 11) other) (decide (get_or t.processes (min level 11) other)))
+      (decided_by (after (Ok tt) (checks (get_or t.processes (min level 11) other))) (get_or t.processes (min level 11) other) (decide (get_or t.processes (min level 11) other)))
       ≡ outcome_of (checked t (checks (process_of t level)) effect)
   unfolding obeyed
   decided_call obeys =
       own_or_other t level other whole
-      (λ at p. decided_at t at (decided_by (after Passed (checks p)) p (decide p)) ≡ outcome_of (checked t (checks (process_of t level)) effect))
-      (decided_verdict (after Passed (checks (process_of t level))) t level (decide (process_of t level)) effect obeys)
-      (λ nobody at. ap (λ (v : Verdict). decided_at t at (decided_by v (get_or t.processes at other) (decide (get_or t.processes at other)))) (first_fails _ NoUser (rest (get_or t.processes at other)) nobody)
+      (λ at p. decided_at t at (decided_by (after (Ok tt) (checks p)) p (decide p)) ≡ outcome_of (checked t (checks (process_of t level)) effect))
+      (decided_verdict (after (Ok tt) (checks (process_of t level))) t level (decide (process_of t level)) effect obeys)
+      (λ nobody at. ap (λ (v : Checked). decided_at t at (decided_by v (get_or t.processes at other) (decide (get_or t.processes at other)))) (first_fails _ NoUser (rest (get_or t.processes at other)) nobody)
       ∙ decided_refused t at other NoUser
-      ∙ sym (ap (λ (v : Verdict). outcome_of (obeyed v t effect)) (first_fails _ NoUser (rest (process_of t level)) nobody)))
+      ∙ sym (ap (λ (v : Checked). outcome_of (obeyed v t effect)) (first_fails _ NoUser (rest (process_of t level)) nobody)))

@@ -8,6 +8,7 @@ use lib.Dec.{eqb, leb, ltb}
 use lib.ListN.{length, get_or, set}
 use lib.Seq.{set_out, get_or-set_same, get_or-set_other}
 use borrow.Author.Tests.{eqb-true, eqb-false, ltb-true, ltb-false}
+use Rattle.std.specs.Prelude.{Ok, Err}
 use Rattle.common.proofs.Cases.{by_test, both_true}
 use Rattle.common.proofs.Every.{every_below_lem, below_every}
 use Rattle.common.proofs.Lists.{get_or_within}
@@ -30,11 +31,9 @@ use Rattle.table.specs.declared.Table.{Table}
 use Rattle.table.specs.Configuration.{configured_of}
 use Rattle.table.specs.Sound.{process_within, none_kept, queued_as_it_waits, level_sound, no_process, levels_sound, orders_sound, on_card, pool_sound}
 use Rattle.table.proofs.Parts.{SoundParts}
-use Rattle.calls.specs.declared.Verdict.{Verdict}
-use Rattle.calls.specs.declared.Verdict.TheVariants.{Passed, Refused}
 use Rattle.calls.specs.Effects.{Effect}
 use Rattle.calls.specs.Levels.{process_at, with_processes, with_clock, with_scheduler, with_orders, with_mask, with_latch, with_pool}
-use Rattle.calls.specs.Verdicts.{Check, check, also_of, after, obeyed, by_caller}
+use Rattle.calls.specs.Verdicts.{Checked, Check, check, also_of, after, obeyed, by_caller}
 use Rattle.calls.proofs.Obeying.{last_passed}
 
 -- how a table stands along a run: its arrays are whole, none of the breaks shows, and its semaphores stand orderly
@@ -49,10 +48,10 @@ unfoldable pub Keeps : Effect → Type 0
 Keeps e = Steady e.table
 
 -- an effect after checks leaves a steady table if it does so where the checks pass
-pub keeps_obeyed : (v : Verdict) (t : Table) (effect : Effect) → Steady t → (v ≡ Passed → Keeps effect) → Keeps (obeyed v t effect)
+pub keeps_obeyed : (v : Checked) (t : Table) (effect : Effect) → Steady t → (v ≡ Ok tt → Keeps effect) → Keeps (obeyed v t effect)
 unfolding obeyed Keeps
-keeps_obeyed Passed t effect steady keeps = keeps refl
-keeps_obeyed (Refused answer) t effect steady keeps = steady
+keeps_obeyed (Ok tt) t effect steady keeps = keeps refl
+keeps_obeyed (Err answer) t effect steady keeps = steady
 
 -- ---- a table with one part changed
 
@@ -150,21 +149,21 @@ module _ (t : Table) where
 -- ---- what checks that passed tell
 
 -- where checks passed after others, the others passed
-pub passed_before : (v : Verdict) (checks : List Check) → after v checks ≡ Passed → v ≡ Passed
+pub passed_before : (v : Checked) (checks : List Check) → after v checks ≡ Ok tt → v ≡ Ok tt
 passed_before v [] passed = passed
 passed_before v (x ∷ checks) passed = (last_passed v x.holds x.answer (passed_before (also_of v x.holds x.answer) checks passed)).0
 
 -- the first of checks that passed holds, and all before it passed
-pub passed_check : (v : Verdict) (holds : Bool) (answer : Answer) (checks : List Check) → after v (check holds answer ∷ checks) ≡ Passed
-    → (v ≡ Passed) × (holds ≡ true)
+pub passed_check : (v : Checked) (holds : Bool) (answer : Answer) (checks : List Check) → after v (check holds answer ∷ checks) ≡ Ok tt
+    → (v ≡ Ok tt) × (holds ≡ true)
 passed_check v holds answer checks passed = last_passed v holds answer (passed_before (also_of v holds answer) checks passed)
 
 -- a caller whose checks passed is configured and READY
-pub passed_caller : (c : Config) (p : Process) (caller : ℕ) (checks : List Check) → after (by_caller c p caller) checks ≡ Passed
+pub passed_caller : (c : Config) (p : Process) (caller : ℕ) (checks : List Check) → after (by_caller c p caller) checks ≡ Ok tt
     → (configured_of c caller ≡ true) × (is_of p.state Ready ≡ true)
 passed_caller c p caller checks passed =
-    let ready = last_passed (also_of Passed (configured_of c caller) NoUser) (is_of p.state Ready) NotReady (passed_before (by_caller c p caller) checks passed) in
-    ((last_passed Passed (configured_of c caller) NoUser ready.0).1, ready.1)
+    let ready = last_passed (also_of (Ok tt) (configured_of c caller) NoUser) (is_of p.state Ready) NotReady (passed_before (by_caller c p caller) checks passed) in
+    ((last_passed (Ok tt) (configured_of c caller) NoUser ready.0).1, ready.1)
 
 -- ---- one process changed
 

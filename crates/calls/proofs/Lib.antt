@@ -2,3 +2,4 @@ pub mod Obeying
 pub mod Keeping
 pub mod Changing
 pub mod Deciding
+pub mod Checking

@@ -4,6 +4,7 @@ use mathlib.Core.Bool.{Bool, true, false}
 use mathlib.Core.List.{List, []}
 use Prim.Native.Nat.{ℕ}
 use native.Mathlib.Omega.{arith}
+use Rattle.std.specs.Prelude.{Ok, Err}
 use Rattle.table.specs.declared.answers.Answer.{Answer}
 use Rattle.table.specs.declared.answers.Answer.TheVariants.{Ok}
 use Rattle.table.specs.declared.Outcome.{Outcome}
@@ -11,11 +12,9 @@ use Rattle.table.specs.declared.Table.{Table}
 use Rattle.table.specs.Table.{refused_of}
 use Rattle.table.specs.declared.wakes.Wake.{Wake}
 use Rattle.table.specs.Wakes.{no_wakes_of, wakes_of}
-use Rattle.calls.specs.declared.Verdict.{Verdict}
-use Rattle.calls.specs.declared.Verdict.TheVariants.{Passed, Refused}
 use Rattle.calls.specs.Effects.{Effect, number, waking, refuse, outcome_of}
 use Rattle.calls.specs.Outcomes.{answered_of, carries_number}
-use Rattle.calls.specs.Verdicts.{also_of, obeyed}
+use Rattle.calls.specs.Verdicts.{Checked, also_of, obeyed}
 
 -- a refusal, as it lies in the code's result
 pub outcome_refuse : (t : Table) (answer : Answer) → outcome_of (refuse t answer) ≡ refused_of t answer
@@ -37,22 +36,22 @@ unfolding outcome_of carries_number
 outcome_number t n wakes = refl
 
 -- a call whose checks refuse it
-pub refused_by : (v : Verdict) (t : Table) (effect : Effect) (answer : Answer) (r : Outcome)
-    → r ≡ refused_of t answer → v ≡ Refused answer → r ≡ outcome_of (obeyed v t effect)
+pub refused_by : (v : Checked) (t : Table) (effect : Effect) (answer : Answer) (r : Outcome)
+    → r ≡ refused_of t answer → v ≡ Err answer → r ≡ outcome_of (obeyed v t effect)
 unfolding obeyed
 refused_by v t effect answer r result refused = rw refused (result ∙ sym (outcome_refuse t answer))
 
 -- a call whose checks all pass
-pub passed_all : (v : Verdict) (t : Table) (effect : Effect) (r : Outcome) → r ≡ outcome_of effect → v ≡ Passed → r ≡ outcome_of (obeyed v t effect)
+pub passed_all : (v : Checked) (t : Table) (effect : Effect) (r : Outcome) → r ≡ outcome_of effect → v ≡ Ok tt → r ≡ outcome_of (obeyed v t effect)
 unfolding obeyed
 passed_all v t effect r result passed = rw passed result
 
-first_refused : (answer : Answer) → Refused answer ≡ Passed → ⊥
+first_refused : (answer : Answer) → ◌≡◌ {A = Checked} (Err answer) (Ok tt) → ⊥
 first_refused answer same = let z : ◌≡◌ {A = ℕ} 0 1 = cc in absurd (omega arith)
 
 -- where all checks passed, so did the last, and all before it
-pub last_passed : (v : Verdict) (holds : Bool) (answer : Answer) → also_of v holds answer ≡ Passed → (v ≡ Passed) × (holds ≡ true)
+pub last_passed : (v : Checked) (holds : Bool) (answer : Answer) → also_of v holds answer ≡ Ok tt → (v ≡ Ok tt) × (holds ≡ true)
 unfolding also_of
-last_passed Passed true answer passed = (refl, refl)
-last_passed Passed false answer passed = absurd (first_refused answer passed)
-last_passed (Refused first) holds answer passed = absurd (first_refused first passed)
+last_passed (Ok tt) true answer passed = (refl, refl)
+last_passed (Ok tt) false answer passed = absurd (first_refused answer passed)
+last_passed (Err first) holds answer passed = absurd (first_refused first passed)

@@ -2,9 +2,7 @@
 -- `outcome_of` says how that lies in the code's result.
 use Rattle.std.specs.Prelude.{List, [], ℕ}
 use Rattle.inputs.specs.declared.InputSet.{InputSet}
-use Rattle.inputs.specs.InputSet.{empty_of}
 use Rattle.process.specs.declared.buffers.Message.{Message}
-use Rattle.process.specs.Messages.{zeros}
 use Rattle.table.specs.declared.answers.Answer.{Answer}
 use Rattle.table.specs.declared.wakes.Wake.{Wake}
 use Rattle.table.specs.declared.Shown.{Shown}
@@ -53,29 +51,15 @@ suspended t = waking Answer.Suspended [] t
 abbrev pub carrying : Answer → Carried → Table → Effect
 carrying answer carried t = record { answer = answer; carried = carried; wakes = []; table = t }
 
--- how it lies in the code's result: "no message (sixteen zeros)", no inputs and no number where none is carried
-
+-- how it lies in the code's result
 abbrev pub shown_by : Carried → Shown
 shown_by nothing = Shown.Nothing
-shown_by (message m) = Shown.Message
-shown_by (inputs set) = Shown.Inputs
-shown_by (number n) = Shown.Number
-shown_by (bytes n) = Shown.Data
+shown_by (message m) = Shown.Message m
+shown_by (inputs set) = Shown.Inputs set
+shown_by (number n) = Shown.Number n
+shown_by (bytes n) = Shown.Data n
 
-abbrev pub message_by : Carried → Message
-message_by nothing = zeros
-message_by (message m) = m
-message_by (inputs set) = zeros
-message_by (number n) = zeros
-message_by (bytes n) = zeros
-
-abbrev pub inputs_by : Carried → InputSet
-inputs_by nothing = empty_of
-inputs_by (message m) = empty_of
-inputs_by (inputs set) = set
-inputs_by (number n) = empty_of
-inputs_by (bytes n) = empty_of
-
+-- the number that is carried; 0 where none is
 abbrev pub number_by : Carried → ℕ
 number_by nothing = 0
 number_by (message m) = 0
@@ -87,9 +71,6 @@ unfoldable pub outcome_of : Effect → Outcome
 outcome_of e = record {
   answer = e.answer;
   shown = shown_by e.carried;
-  message = message_by e.carried;
-  inputs = inputs_by e.carried;
-  number = number_by e.carried;
   wakes = wakes_of e.wakes;
   table = e.table;
 }

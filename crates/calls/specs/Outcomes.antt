@@ -1,9 +1,7 @@
 -- The code's results, each by the effect that it is.
 use Rattle.std.specs.Prelude.{ℕ}
-use Rattle.inputs.specs.InputSet.{empty_of}
 use Rattle.process.specs.declared.marking.Told.{Told}
 use Rattle.process.specs.declared.marking.Told.TheVariants.{Nothing, Overflow, Time}
-use Rattle.process.specs.Messages.{zeros}
 use Rattle.table.specs.declared.answers.Answer.{Answer}
 use Rattle.table.specs.declared.answers.Answer.TheVariants.{Ok, BufferOverflow, TimeCondition}
 use Rattle.table.specs.declared.wakes.Wakes.{Wakes}
@@ -13,7 +11,7 @@ use Rattle.table.specs.declared.Table.{Table}
 
 -- the number and the wakes, and nothing else
 unfoldable pub answered_of : Table → Answer → Wakes → Outcome
-answered_of t answer wakes = record { answer = answer; shown = Shown.Nothing; message = zeros; inputs = empty_of; number = 0; wakes = wakes; table = t }
+answered_of t answer wakes = record { answer = answer; shown = Shown.Nothing; wakes = wakes; table = t }
 
 -- a message is handed over with "overflow (5) before time (14)", or 0
 abbrev pub told_as : Told → Answer
@@ -21,10 +19,10 @@ told_as Nothing = Ok
 told_as Overflow = BufferOverflow
 told_as Time = TimeCondition
 
--- an answer that carries a number or nothing, and the wakes
-abbrev pub replied_of : Table → Answer → Shown → ℕ → Wakes → Outcome
-replied_of t answer shown n wakes = record { answer = answer; shown = shown; message = zeros; inputs = empty_of; number = n; wakes = wakes; table = t }
+-- an answer, what it carries, and the wakes
+abbrev pub replied_of : Table → Answer → Shown → Wakes → Outcome
+replied_of t answer shown wakes = record { answer = answer; shown = shown; wakes = wakes; table = t }
 
 -- 0 with a number, and the wakes
 unfoldable pub carries_number : Table → ℕ → Wakes → Outcome
-carries_number t n wakes = replied_of t Ok Shown.Number n wakes
+carries_number t n wakes = replied_of t Ok (Shown.Number n) wakes

@@ -1,5 +1,5 @@
 -- Document 01, "Answer numbers": "Each process's call checks NOUSER, then NOTREADY, then its own list."
-use Rattle.std.specs.Prelude.{Bool, List, [], ◌∷◌, ℕ}
+use Rattle.std.specs.Prelude.{Bool, List, [], ◌∷◌, ℕ, Result, Ok, Err}
 use Rattle.common.specs.Choice.{pick}
 use Rattle.common.specs.Fold.{fold_of}
 use Rattle.process.specs.declared.Process.{Process}
@@ -10,8 +10,6 @@ use Rattle.table.specs.declared.answers.Answer.TheVariants.{NoUser, NotReady}
 use Rattle.table.specs.declared.configs.Config.{Config}
 use Rattle.table.specs.declared.Table.{Table}
 use Rattle.table.specs.Configuration.{configured_of}
-use Rattle.calls.specs.declared.Verdict.{Verdict}
-use Rattle.calls.specs.declared.Verdict.TheVariants.{Passed, Refused}
 use Rattle.calls.specs.Effects.{Effect, refuse}
 use Rattle.calls.specs.Levels.{process_of}
 
@@ -23,27 +21,35 @@ pub record Check : Type 0 where
 abbrev pub check : Bool → Answer → Check
 check holds answer = record { holds = holds; answer = answer }
 
+-- what became of a call's checks: all passed, or the first that failed refuses the call by its number
+abbrev pub Checked : Type 0
+Checked = Result (Unit {0}) Answer
+
+-- one check
+abbrev pub check_of : Bool → Answer → Checked
+check_of holds answer = pick holds (Ok tt) (Err answer)
+
 -- one check more: it counts where all before it passed
-unfoldable pub also_of : Verdict → Bool → Answer → Verdict
-also_of Passed holds answer = pick holds Passed (Refused answer)
-also_of (Refused first) holds answer = Refused first
+unfoldable pub also_of : Checked → Bool → Answer → Checked
+also_of (Ok tt) holds answer = pick holds (Ok tt) (Err answer)
+also_of (Err first) holds answer = Err first
 
 -- checks in their order, after others that were made
-abbrev pub after : Verdict → List Check → Verdict
-after verdict checks = fold_of (λ v c. also_of v c.holds c.answer) verdict checks
+abbrev pub after : Checked → List Check → Checked
+after before checks = fold_of (λ v c. also_of v c.holds c.answer) before checks
 
 -- a call that is obeyed where all its checks pass, and else refused by the first that fails
-unfoldable pub obeyed : Verdict → Table → Effect → Effect
-obeyed Passed t effect = effect
-obeyed (Refused answer) t effect = refuse t answer
+unfoldable pub obeyed : Checked → Table → Effect → Effect
+obeyed (Ok tt) t effect = effect
+obeyed (Err answer) t effect = refuse t answer
 
 -- "NOUSER, then NOTREADY"
-abbrev pub by_caller : Config → Process → ℕ → Verdict
-by_caller c p caller = after Passed (check (configured_of c caller) NoUser ∷ check (is_of p.state Ready) NotReady ∷ [])
+abbrev pub by_caller : Config → Process → ℕ → Checked
+by_caller c p caller = after (Ok tt) (check (configured_of c caller) NoUser ∷ check (is_of p.state Ready) NotReady ∷ [])
 
 -- a call of no process: its own list
 abbrev pub checked : Table → List Check → Effect → Effect
-checked t checks effect = obeyed (after Passed checks) t effect
+checked t checks effect = obeyed (after (Ok tt) checks) t effect
 
 -- a process's call: "NOUSER, then NOTREADY, then its own list"
 abbrev pub called : Table → ℕ → List Check → Effect → Effect

@@ -1,16 +1,15 @@
 // What all calls share: their checks in order, the process at a level, and how an answer is given.
 #![tactic(auto)]
 
-ghost use Rattle.std.specs.Prelude.{◌≡◌, set};
-ghost use Rattle.calls.specs.Decisions.{decided, told_of};
+ghost use Rattle.std.specs.Prelude.{◌≡◌, min, set};
+ghost use Rattle.calls.specs.Decisions.{decided, told_of, looked_at, decided_at};
+ghost use Rattle.calls.specs.declared.Decided.{Decided};
 ghost use Rattle.calls.specs.Effects.{nothing};
 ghost use Rattle.calls.specs.Levels.{process_at};
-ghost use Rattle.calls.specs.Verdicts.{also_of, by_caller};
+ghost use Rattle.calls.specs.Verdicts.{check_of, by_caller};
 ghost use Rattle.calls.specs.Outcomes.{answered_of, carries_number, replied_of, told_as};
 
-use inputs::InputSet;
 use process::Process;
-use process::buffers::Message;
 use process::marking::Told;
 use process::states::State;
 use table::answers::Answer;
@@ -18,39 +17,21 @@ use table::configs::Config;
 use table::wakes::Wakes;
 use table::{Outcome, Shown, Table};
 
-// What became of a call's checks: all passed, or the first that failed refuses the call by its number.
-#[derive(Clone, Copy)]
-pub enum Verdict {
-    Passed,
-    Refused(Answer),
-}
-
-impl Verdict {
-    // One check more: it counts where all before it passed.
-    pub fn check(self, holds: bool, answer: Answer) -> Verdict
-        ensures { result ≡ also_of self holds answer }
-    {
-        match self {
-            Verdict::Passed => {
-                if holds {
-                    Verdict::Passed
-                } else {
-                    Verdict::Refused(answer)
-                }
-            }
-            Verdict::Refused(first) => Verdict::Refused(first),
-        }
-    }
+// One check of a call: what must hold, and the number that refuses the call where it does not. A call makes its checks in their order, each by
+// a `?`, so that the first that fails refuses it.
+pub fn check(holds: bool, answer: Answer) -> Result<(), Answer>
+    ensures { result ≡ check_of holds answer }
+{
+    if holds { Ok(()) } else { Err(answer) }
 }
 
 // The process at a level; one that was never started where there is no such level.
 pub fn process_at(processes: [Process; 12], level: u16) -> Process
     ensures { result ≡ process_at processes level }
 {
-    if level < 12 {
-        processes[level as usize]
-    } else {
-        Process::fresh()
+    match processes.get(level as usize) {
+        Some(process) => *process,
+        None => Process::fresh(),
     }
 }
 
@@ -59,6 +40,7 @@ pub fn with_process(processes: [Process; 12], level: u16, process: Process) -> [
     ensures { result ≡ set processes level process }
 {
     let mut changed = processes;
+    // Through `get_mut` the proof didn't close: nothing is known of a local array after a write through what it lends.
     if level < 12 {
         changed[level as usize] = process;
     }
@@ -66,15 +48,11 @@ pub fn with_process(processes: [Process; 12], level: u16, process: Process) -> [
 }
 
 // The two checks of every process's call: the caller is configured, and it is neither INACT nor waits.
-pub fn caller_checked(config: Config, process: Process, caller: u8) -> Verdict
+pub fn caller_checked(config: Config, process: Process, caller: u8) -> Result<(), Answer>
     ensures { result ≡ by_caller config process caller }
 {
-    let state = process.state;
-    let configured = config.has_level(caller as u16);
-    let ready = state.is(State::Ready);
-    Verdict::Passed
-        .check(configured, Answer::NoUser)
-        .check(ready, Answer::NotReady)
+    check(config.has_level(caller as u16), Answer::NoUser)?;
+    check(process.state == State::Ready, Answer::NotReady)
 }
 
 // What a call decides that changes the record of one process and nothing else: the answer, what it carries, and that record. Decided on small
@@ -83,8 +61,6 @@ pub fn caller_checked(config: Config, process: Process, caller: u8) -> Verdict
 pub struct Decided {
     pub answer: Answer,
     pub shown: Shown,
-    pub message: Message,
-    pub inputs: InputSet,
     pub process: Process,
 }
 
@@ -96,8 +72,6 @@ impl Decided {
         Decided {
             answer,
             shown: Shown::Nothing,
-            message: Message::ZEROS,
-            inputs: InputSet::empty(),
             process,
         }
     }
@@ -107,19 +81,31 @@ impl Decided {
 pub fn told(table: Table, decided: Decided) -> Outcome
     ensures { result ≡ told_of table decided }
 {
-    let answer = decided.answer;
-    let shown = decided.shown;
-    let message = decided.message;
-    let inputs = decided.inputs;
     Outcome {
-        answer,
-        shown,
-        message,
-        inputs,
-        number: 0,
+        answer: decided.answer,
+        shown: decided.shown,
         wakes: Wakes::none(),
         table,
     }
+}
+
+// A call that changes the record at a level, and nothing else of the table. What it comes to is decided on small parts, and the table is changed
+// in place: it is copied once in and once out.
+pub fn on_record<F: FnOnce(Config, Process) -> Decided>(
+    table: Table,
+    level: u16,
+    decide: F,
+) -> Outcome
+    requires { F.pre decide table.config (looked_at table level) }
+    ensures { (decided : Decided) × F.post decide table.config (looked_at table level) decided
+        × (result ≡ decided_at table (min level 11) decided) }
+{
+    let mut after = table;
+    // A level above 11 is refused whatever record stands in for its own, and that one is put back as it was.
+    let at = (level as usize).min(11);
+    let decided = decide(after.config, after.processes[at]);
+    after.processes[at] = decided.process;
+    told(after, decided)
 }
 
 // The number and the wakes, and nothing else.
@@ -142,16 +128,13 @@ pub fn told_as(told: Told) -> Answer
     }
 }
 
-// An answer that carries a number or nothing, and who wakes.
-pub fn replied(table: Table, answer: Answer, shown: Shown, number: u64, wakes: Wakes) -> Outcome
-    ensures { result ≡ replied_of table answer shown number wakes }
+// An answer, what it carries, and who wakes.
+pub fn replied(table: Table, answer: Answer, shown: Shown, wakes: Wakes) -> Outcome
+    ensures { result ≡ replied_of table answer shown wakes }
 {
     Outcome {
         answer,
         shown,
-        message: Message::ZEROS,
-        inputs: InputSet::empty(),
-        number,
         wakes,
         table,
     }
@@ -161,5 +144,5 @@ pub fn replied(table: Table, answer: Answer, shown: Shown, number: u64, wakes: W
 pub fn with_number(table: Table, number: u64, wakes: Wakes) -> Outcome
     ensures { result ≡ carries_number table number wakes }
 {
-    replied(table, Answer::Ok, Shown::Number, number, wakes)
+    replied(table, Answer::Ok, Shown::Number(number), wakes)
 }

@@ -1,10 +1,10 @@
 -- Document 01, "Cases to settle": those marked p, in one table. Each row asks the definitions that the contracts of the functions cite, so what
 -- holds of a row holds of the code.
-use Rattle.std.specs.Prelude.{Bool, true, false, not, List, [], ◌∷◌, ℕ, eqb, replicate}
+use Rattle.std.specs.Prelude.{Bool, true, false, not, Result, Ok, Err, List, [], ◌∷◌, ℕ, eqb, replicate}
+use Rattle.std.specs.Result.{is_err}
 use Rattle.common.specs.Choice.{pick}
 use Rattle.day.specs.declared.Fields.{Fields}
-use Rattle.day.specs.declared.Made.{Made}
-use Rattle.day.specs.declared.Made.TheVariants.{Time, BadMillisecond, BadSecond, BadMinute, BadHour}
+use Rattle.day.specs.declared.BadField.{BadField}
 use Rattle.day.specs.declared.TimeOfDay.{TimeOfDay}
 use Rattle.day.specs.Fields.{made_of}
 use Rattle.day.specs.TimeOfDay.{at, day}
@@ -52,20 +52,13 @@ pub data Case : Type 0 where
   answered : Config → List Exchange → Case
 
 -- fields made this time of day
-abbrev made : Made → TimeOfDay → Bool
-made (Time t) moment = eqb t.milliseconds moment.milliseconds
-made BadMillisecond moment = false
-made BadSecond moment = false
-made BadMinute moment = false
-made BadHour moment = false
+abbrev made : Result TimeOfDay BadField → TimeOfDay → Bool
+made (Ok t) moment = eqb t.milliseconds moment.milliseconds
+made (Err field) moment = false
 
 -- they made none
-abbrev refused : Made → Bool
-refused (Time t) = false
-refused BadMillisecond = true
-refused BadSecond = true
-refused BadMinute = true
-refused BadHour = true
+abbrev refused : Result TimeOfDay BadField → Bool
+refused made = is_err made
 
 -- L, P, the scheduler and the clock; NP 1, four order places, card 8, nobody privileged and a pool of four bytes
 abbrev plant : ℕ → ℕ → ℕ → TimeOfDay → Config

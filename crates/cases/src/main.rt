@@ -2,11 +2,11 @@
 // are as document 02, §2, has them. Then the pool of document 02, §1, as a host lends it, and why RELSEMA is refused, §3.
 #![tactic(auto)]
 
-use day::{Fields, Made, TimeOfDay};
-use orders::First;
+use day::{Fields, TimeOfDay};
 use process::Condition;
 use process::buffers::Message;
 use rtms::{message_calls, pool_calls, semaphore_calls, state_calls, timer_calls};
+use std::fmt;
 use table::configs::{Config, Privileged, UNUSED};
 use table::{Outcome, Shown, Table};
 use timers::NewOrder;
@@ -28,29 +28,21 @@ fn number(rt: &impl Print, value: u64) {
     let _ = print!(rt; " {value}");
 }
 
-// 1 for yes, 0 for no.
-fn flag(rt: &impl Print, holds: bool) {
-    number(rt, common::one_if(holds) as u64);
-}
-
 fn end(rt: &impl Print) {
     word(rt, b"\n");
 }
 
-// A semaphore's number, and whether it is usable.
+// A semaphore's number, and whether it is usable: 1 for yes, 0 for no.
 fn usable(rt: &impl Print, asked: u16) {
-    word(rt, b"usable");
-    number(rt, asked as u64);
-    flag(rt, semaphores::usable(asked));
-    end(rt);
+    let _ = println!(rt;
+        "usable {asked} {}",
+        common::one_if(semaphores::usable(asked))
+    );
 }
 
 // `to`, and the interval.
 fn interval(rt: &impl Print, to: u32) {
-    word(rt, b"interval");
-    number(rt, to as u64);
-    number(rt, orders::interval(to) as u64);
-    end(rt);
+    let _ = println!(rt; "interval {to} {}", orders::interval(to));
 }
 
 fn fields(hour: u8, minute: u8, second: u8, millisecond: u16) -> Fields {
@@ -62,55 +54,41 @@ fn fields(hour: u8, minute: u8, second: u8, millisecond: u16) -> Fields {
     }
 }
 
-fn numbers(rt: &impl Print, time: Fields) {
-    number(rt, time.hour as u64);
-    number(rt, time.minute as u64);
-    number(rt, time.second as u64);
-    number(rt, time.millisecond as u64);
+// A time of day as the lines have it: hour, minute, second and millisecond.
+#[derive(Drop)]
+struct TimeText(Fields);
+
+impl fmt::Display for TimeText {
+    fn fmt<W: fmt::Write>(&self, f: &mut fmt::Formatter<W>) -> fmt::Result {
+        let Fields {
+            hour,
+            minute,
+            second,
+            millisecond,
+        } = self.0;
+        write!(f, "{hour} {minute} {second} {millisecond}")
+    }
 }
 
 // Hour, minute, second and millisecond, and their time of day, or that they are refused.
 fn time(rt: &impl Print, asked: Fields) {
-    word(rt, b"time");
-    numbers(rt, asked);
-    let made = TimeOfDay::made(asked);
-    match made {
-        Made::Time(moment) => number(rt, moment.milliseconds as u64),
-        Made::BadMillisecond => word(rt, b" refused"),
-        Made::BadSecond => word(rt, b" refused"),
-        Made::BadMinute => word(rt, b" refused"),
-        Made::BadHour => word(rt, b" refused"),
+    let _ = print!(rt; "time {}", TimeText(asked));
+    match TimeOfDay::made(asked) {
+        Ok(moment) => number(rt, moment.milliseconds as u64),
+        Err(_) => word(rt, b" refused"),
     }
     end(rt);
 }
 
 // A time of day in milliseconds, and its hour, minute, second and millisecond.
 fn told(rt: &impl Print, time: TimeOfDay) {
-    word(rt, b"fields");
-    number(rt, time.milliseconds as u64);
-    numbers(rt, time.fields());
-    end(rt);
-}
-
-// When an order for that time is first carried out.
-fn first(asked: Fields) -> First {
-    let made = TimeOfDay::made(asked);
-    match made {
-        Made::Time(moment) => First::At(moment),
-        Made::BadMillisecond => First::Relative,
-        Made::BadSecond => First::Relative,
-        Made::BadMinute => First::Relative,
-        Made::BadHour => First::Relative,
-    }
+    let _ = println!(rt; "fields {} {}", time.milliseconds, TimeText(time.fields()));
 }
 
 // The clock, the time of an absolute order, and its first delay. The interval is 1, so that it shows where the time is not looked at.
 fn delay(rt: &impl Print, clock: TimeOfDay, asked: Fields) {
-    word(rt, b"delay");
-    number(rt, clock.milliseconds as u64);
-    numbers(rt, asked);
-    number(rt, orders::first_delay(clock, 1, first(asked)) as u64);
-    end(rt);
+    let delay = orders::first_delay(clock, 1, TimeOfDay::made(asked).ok());
+    let _ = println!(rt; "delay {} {} {delay}", clock.milliseconds, TimeText(asked));
 }
 
 // NP 1, four order places, card 8, nobody privileged and a pool of four bytes.
@@ -130,27 +108,16 @@ fn plant(lowest: u16, processes: u16, scheduler: u8, clock: TimeOfDay) -> Config
 
 // L, P and the scheduler's level, and whether the configuration is good.
 fn config(rt: &impl Print, lowest: u16, processes: u16, scheduler: u8) {
-    word(rt, b"config");
-    number(rt, lowest as u64);
-    number(rt, processes as u64);
-    number(rt, scheduler as u64);
-    flag(
-        rt,
-        plant(lowest, processes, scheduler, TimeOfDay::MIDNIGHT).good(),
+    let good = plant(lowest, processes, scheduler, TimeOfDay::MIDNIGHT).good();
+    let _ = println!(rt;
+        "config {lowest} {processes} {scheduler} {}",
+        common::one_if(good)
     );
-    end(rt);
 }
 
 // Levels 2 and 3, of which 2 is started and may call.
 fn started(clock: TimeOfDay) -> Table {
-    let outcome = state_calls::start(Table::fresh(plant(2, 2, 11, clock)), 2, 32);
-    outcome.table
-}
-
-// The number of an answer.
-fn answer(rt: &impl Print, outcome: Outcome) {
-    let answer = outcome.answer;
-    number(rt, answer.number() as u64);
+    state_calls::start(Table::fresh(plant(2, 2, 11, clock)), 2, 32).table
 }
 
 // A relative order of level 2 for level 3.
@@ -169,17 +136,12 @@ fn schedule(table: Table, to: u32) -> Outcome {
 
 // The clock and `to` of a relative order, how many orders stand then, and when the first is due.
 fn due(rt: &impl Print, clock: TimeOfDay, to: u32) {
-    let outcome = schedule(started(clock), to);
-    let table = outcome.table;
-    let orders = table.orders;
-    let order = orders.places[0];
-    let moment = order.due;
-    word(rt, b"due");
-    number(rt, clock.milliseconds as u64);
-    number(rt, to as u64);
-    number(rt, orders.count as u64);
-    number(rt, moment.milliseconds as u64);
-    end(rt);
+    let orders = schedule(started(clock), to).table.orders;
+    let moment = orders.places[0].due;
+    let _ = println!(rt;
+        "due {} {to} {} {}",
+        clock.milliseconds, orders.count, moment.milliseconds
+    );
 }
 
 // A message of level 2 for level 3, with ALWAYS.
@@ -191,89 +153,75 @@ fn send(table: Table) -> Outcome {
 fn second_always(rt: &impl Print) {
     let first = send(started(TimeOfDay::MIDNIGHT));
     let second = send(first.table);
-    word(rt, b"always");
-    answer(rt, first);
-    answer(rt, second);
-    end(rt);
+    let _ = println!(rt;
+        "always {} {}",
+        first.answer.number(),
+        second.answer.number()
+    );
 }
 
 // An order of level 2, cancelled as if it were level 3's.
 fn wrong_sender(rt: &impl Print) {
     let entered = schedule(started(TimeOfDay::MIDNIGHT), 5);
     let cancelled = timer_calls::cancel_schedule(entered.table, 2, 3, 3);
-    word(rt, b"cancel");
-    answer(rt, entered);
-    answer(rt, cancelled);
-    end(rt);
+    let _ = println!(rt;
+        "cancel {} {}",
+        entered.answer.number(),
+        cancelled.answer.number()
+    );
 }
 
 // Level 2 has called INITPOOL.
 fn begun() -> Table {
-    let outcome = pool_calls::init_pool(started(TimeOfDay::MIDNIGHT), 2);
-    outcome.table
-}
-
-fn four(rt: &impl Print, bytes: [u8; 4]) {
-    number(rt, bytes[0] as u64);
-    number(rt, bytes[1] as u64);
-    number(rt, bytes[2] as u64);
-    number(rt, bytes[3] as u64);
+    pool_calls::init_pool(started(TimeOfDay::MIDNIGHT), 2).table
 }
 
 // Two bytes put into the middle of the pool, and all four got: the answers, and what the caller's buffer holds.
 fn put_and_get(rt: &impl Print) {
     let mut pool: [u8; 4] = [0; 4];
     let mut buffer: [u8; 4] = [9; 4];
-    let given = [7, 8];
-    let put = pool_calls::put_pool(begun(), &mut pool, 2, 1, 2, &given);
+    let put = pool_calls::put_pool(begun(), &mut pool, 2, 1, 2, &[7, 8]);
     let got = pool_calls::get_pool(put.table, &pool, 2, 0, 4, &mut buffer);
-    word(rt, b"put");
-    answer(rt, put);
-    answer(rt, got);
-    four(rt, buffer);
-    end(rt);
+    let [a, b, c, d] = buffer;
+    let _ = println!(rt;
+        "put {} {} {a} {b} {c} {d}",
+        put.answer.number(),
+        got.answer.number()
+    );
 }
 
 // A part that begins at an offset, as long as the buffer, of a pool that is lent shorter by so many bytes: the answer, and the buffer.
 fn get_at(rt: &impl Print, offset: u16, count: u16, missing: usize) {
     let pool: [u8; 4] = [5; 4];
-    let lent: &[u8] = &pool;
     let mut buffer: [u8; 4] = [9; 4];
     let got = pool_calls::get_pool(
         begun(),
-        &lent[common::least(missing, 4)..],
+        &pool[missing.min(4)..],
         2,
         offset,
         count,
         &mut buffer,
     );
-    word(rt, b"get");
-    answer(rt, got);
-    four(rt, buffer);
-    end(rt);
+    let [a, b, c, d] = buffer;
+    let _ = println!(rt; "get {} {a} {b} {c} {d}", got.answer.number());
 }
 
 // Level 2 holds semaphore 7, and level 3 may call.
 fn held() -> Table {
     let both = state_calls::start(started(TimeOfDay::MIDNIGHT), 3, 32);
-    let requested = semaphore_calls::request(both.table, 2, 7);
-    requested.table
+    semaphore_calls::request(both.table, 2, 7).table
 }
 
 // A number that a level releases, the answer, and the holder where one is told.
 fn release(rt: &impl Print, caller: u8, asked: u16) {
     let outcome = semaphore_calls::release(held(), caller, asked);
-    let shown = outcome.shown;
-    word(rt, b"release");
-    number(rt, caller as u64);
-    number(rt, asked as u64);
-    answer(rt, outcome);
-    match shown {
-        Shown::Number => number(rt, outcome.number),
+    let _ = print!(rt; "release {caller} {asked} {}", outcome.answer.number());
+    match outcome.shown {
+        Shown::Number(told) => number(rt, told),
         Shown::Nothing => word(rt, b" nothing"),
-        Shown::Message => word(rt, b" message"),
-        Shown::Inputs => word(rt, b" inputs"),
-        Shown::Data => word(rt, b" data"),
+        Shown::Message(_) => word(rt, b" message"),
+        Shown::Inputs(_) => word(rt, b" inputs"),
+        Shown::Data(_) => word(rt, b" data"),
     }
     end(rt);
 }

@@ -2,9 +2,9 @@
 use mathlib.Core.Path.{◌≡◌, ◌∙◌, ap, sym}
 use Prim.Native.Nat.{ℕ, ◌+◌, ◌*◌, ◌/◌, ◌%◌, ◌<◌}
 use native.Mathlib.Omega.{arith}
+use Rattle.std.specs.Prelude.{Ok}
 use Rattle.day.specs.declared.TimeOfDay.{TimeOfDay}
 use Rattle.day.specs.declared.Fields.{Fields}
-use Rattle.day.specs.declared.Made.TheVariants.{Time}
 use Rattle.day.specs.TimeOfDay.{at, day}
 use Rattle.day.specs.Fields.{time_of, made_of, fields_of}
 use Rattle.day.proofs.Ranges.{InRange, made_good, made_time}
@@ -34,9 +34,9 @@ fields_time f h =
     λ i. record { hour = hours i; minute = minutes i; second = seconds i; millisecond = milliseconds i }
 
 -- a time of day, its fields, and back
-pub made_fields : (t : TimeOfDay) → t.milliseconds < day → made_of (fields_of t) ≡ Time t
-made_fields t h = made_good (fields_of t) (fields_good_lem t) ∙ ap Time (time_fields t h)
+pub made_fields : (t : TimeOfDay) → t.milliseconds < day → made_of (fields_of t) ≡ Ok t
+made_fields t h = made_good (fields_of t) (fields_good_lem t) ∙ ap Ok (time_fields t h)
 
 -- fields that make a time of day are its fields
-pub fields_made : (f : Fields) (t : TimeOfDay) → made_of f ≡ Time t → fields_of t ≡ f
+pub fields_made : (f : Fields) (t : TimeOfDay) → made_of f ≡ Ok t → fields_of t ≡ f
 fields_made f t e = let known = made_time f t e in ap fields_of (sym known.1) ∙ fields_time f known.0

@@ -21,7 +21,7 @@ const SECOND: u32 = 1_000;
 
 // A moment of the day, in milliseconds after midnight. One of a day or more reads as the time of day that the clock shows
 // then: no function asks for less.
-#[derive(Clone, Copy)]
+#[derive(Clone, Copy, PartialEq, Eq)]
 pub struct TimeOfDay {
     pub milliseconds: u32,
 }
@@ -35,14 +35,13 @@ pub struct Fields {
     pub millisecond: u16,
 }
 
-// What fields make: a time of day, or the first of them that is out of its range.
-#[derive(Clone, Copy)]
-pub enum Made {
-    Time(TimeOfDay),
-    BadMillisecond,
-    BadSecond,
-    BadMinute,
-    BadHour,
+// Which field of a time of day is out of its range.
+#[derive(Clone, Copy, PartialEq, Eq)]
+pub enum BadField {
+    Millisecond,
+    Second,
+    Minute,
+    Hour,
 }
 
 // How many whole units of time a number of milliseconds has, and the milliseconds that are left.
@@ -56,12 +55,11 @@ struct Count {
 fn named(fields: Fields) -> TimeOfDay
     ensures { result ≡ time_of fields }
 {
-    let hours = fields.hour as u32;
-    let minutes = fields.minute as u32;
-    let seconds = fields.second as u32;
-    let milliseconds = fields.millisecond as u32;
     TimeOfDay {
-        milliseconds: hours * HOUR + minutes * MINUTE + seconds * SECOND + milliseconds,
+        milliseconds: u32::from(fields.hour) * HOUR
+            + u32::from(fields.minute) * MINUTE
+            + u32::from(fields.second) * SECOND
+            + u32::from(fields.millisecond),
     }
 }
 
@@ -70,8 +68,7 @@ fn halved(count: Count, piece: u32) -> Count
     requires { (0 < piece) × (count.units ≤ 127) }
     ensures { Halved count piece result }
 {
-    let units = count.units;
-    let left = count.left;
+    let Count { units, left } = count;
     if piece <= left {
         Count {
             units: units + units + 1,
@@ -110,23 +107,23 @@ fn counted(milliseconds: u32, unit: u32) -> Count
 impl TimeOfDay {
     pub const MIDNIGHT: TimeOfDay = TimeOfDay { milliseconds: 0 };
 
-    // The time of day that the fields name, or the field that names none.
-    pub fn made(fields: Fields) -> Made
+    // The time of day that the fields name, or the first of them that is out of its range.
+    pub fn made(fields: Fields) -> Result<TimeOfDay, BadField>
         ensures { result ≡ made_of fields }
     {
         if 999 < fields.millisecond {
-            return Made::BadMillisecond;
+            return Err(BadField::Millisecond);
         }
         if 59 < fields.second {
-            return Made::BadSecond;
+            return Err(BadField::Second);
         }
         if 59 < fields.minute {
-            return Made::BadMinute;
+            return Err(BadField::Minute);
         }
         if 23 < fields.hour {
-            return Made::BadHour;
+            return Err(BadField::Hour);
         }
-        Made::Time(named(fields))
+        Ok(named(fields))
     }
 
     // Hour, minute, second and millisecond, without division.
@@ -149,9 +146,8 @@ impl TimeOfDay {
     pub fn forward(self, by: u64) -> TimeOfDay
         ensures { result ≡ forward_of self by }
     {
-        let milliseconds = self.milliseconds as u64;
         TimeOfDay {
-            milliseconds: ((milliseconds + by % WIDE_DAY) % WIDE_DAY) as u32,
+            milliseconds: ((u64::from(self.milliseconds) + by % WIDE_DAY) % WIDE_DAY) as u32,
         }
     }
 

@@ -1,33 +1,34 @@
 -- What is decided on the parts of a table comes to what the call does. Assumes nothing.
 use mathlib.Core.Path.{◌≡◌, refl}
+use Rattle.std.specs.Prelude.{Option, Some, None, Result, Ok, Err}
 use mathlib.Core.List.{[], map}
 use Prim.Native.Nat.{ℕ, min}
 use lib.Dec.{eqb}
 use lib.ListN.{length, get_or, set}
 use lib.Seq.{set-get_or}
+use Rattle.std.specs.Prelude.{Ok, Err}
 use Rattle.common.specs.Choice.{pick}
 use Rattle.common.specs.Packing.{packed_of}
 use Rattle.common.proofs.Cases.{by_test}
 use Rattle.process.specs.declared.Process.{Process}
+use Rattle.semaphores.specs.declared.Unusable.{Unusable}
 use Rattle.semaphores.specs.declared.Requested.{Requested}
-use Rattle.semaphores.specs.declared.Requested.TheVariants.{Unusable, Held, Waits}
-use Rattle.semaphores.specs.declared.Released.{Released}
-use Rattle.semaphores.specs.declared.Released.TheVariants.{NotHolder, Freed, HandedTo}
+use Rattle.semaphores.specs.declared.Requested.TheVariants.{Held, Waits}
+use Rattle.semaphores.specs.declared.NotReleased.{NotReleased}
+use Rattle.semaphores.specs.declared.NotReleased.TheVariants.{NotHolder}
 use Rattle.semaphores.specs.declared.Semaphores.{Semaphores}
 use Rattle.semaphores.specs.Queues.{levelled, none_of, with_of}
-use Rattle.semaphores.specs.Semaphores.{request_of as requests_of, release_of as releases_of, release_all_of}
+use Rattle.semaphores.specs.Semaphores.{requested_in, released_in, after_request, after_release, request_of as requests_of, release_of as releases_of, release_all_of}
 use Rattle.table.specs.declared.answers.Answer.{Answer}
-use Rattle.table.specs.declared.answers.Answer.TheVariants.{Ok, NoUser}
+use Rattle.table.specs.declared.answers.Answer.TheVariants.{NoUser}
 use Rattle.table.specs.declared.Outcome.{Outcome}
 use Rattle.table.specs.declared.Table.{Table}
 use Rattle.table.specs.Wakes.{no_wakes_of, wakes_of}
 use Rattle.table.specs.Words.{minus_one}
-use Rattle.calls.specs.declared.Verdict.{Verdict}
-use Rattle.calls.specs.declared.Verdict.TheVariants.{Passed, Refused}
 use Rattle.calls.specs.Effects.{nothing, waking, outcome_of}
 use Rattle.calls.specs.Levels.{process_at, process_of, with_processes, with_semaphores}
 use Rattle.calls.specs.Outcomes.{answered_of, replied_of}
-use Rattle.calls.specs.Verdicts.{also_of, obeyed, by_caller}
+use Rattle.calls.specs.Verdicts.{Checked, also_of, obeyed, by_caller}
 use Rattle.calls.proofs.Deciding.{own_or_other}
 use Rattle.calls.proofs.Obeying.{outcome_alone}
 use Rattle.holding.specs.declared.AfterRequest.{AfterRequest}
@@ -43,19 +44,19 @@ asked_at t at x = answered_of (with_semaphores (with_processes t (set t.processe
 
 module _ (t : Table) (at : ℕ) where
   -- of a process that may make one
-  asked_passed : (requested : Requested) (then : Semaphores)
+  asked_passed : (requested : Result Requested Unusable) (then : Semaphores)
       → asked_at t at (asked_by requested (process_of t at) t.semaphores then) ≡ outcome_of (requested_by requested t then at)
   unfolding process_at
-  asked_passed Unusable then = rw set-get_or (outcome_alone _ _)
-  asked_passed Held then = rw set-get_or (outcome_alone _ _)
-  asked_passed Waits then = outcome_alone _ _
+  asked_passed (Err why) then = rw set-get_or (outcome_alone _ _)
+  asked_passed (Ok Held) then = rw set-get_or (outcome_alone _ _)
+  asked_passed (Ok Waits) then = outcome_alone _ _
 
   -- by what the checks decide
-  asked_by_lem : (v : Verdict) (number : ℕ)
+  asked_by_lem : (v : Checked) (number : ℕ)
       → asked_at t at (asked_as v (process_of t at) t.semaphores (requested_for (process_of t at) t.semaphores at number)) ≡ outcome_of (obeyed v t (requested_of t at number))
   unfolding obeyed requested_for requested_of process_at
-  asked_by_lem Passed number = asked_passed (requests_of t.semaphores at number).requested (requests_of t.semaphores at number).semaphores
-  asked_by_lem (Refused answer) number = rw set-get_or (outcome_alone _ _)
+  asked_by_lem (Ok tt) number = asked_passed (requested_in (requests_of t.semaphores at number)) (after_request t.semaphores (requests_of t.semaphores at number))
+  asked_by_lem (Err answer) number = rw set-get_or (outcome_alone _ _)
 
 -- the record that is looked at is the caller's own, or it makes no difference
 module _ (t : Table) (caller number : ℕ) (other : Process) (whole : length t.processes ≡ 12) where
@@ -72,7 +73,7 @@ module _ (t : Table) (caller number : ℕ) (other : Process) (whole : length t.p
 -- the table with what a release came to
 abbrev pub given_at : Table → AfterRelease → Outcome
 given_at t x =
-    replied_of (with_processes (with_semaphores t x.semaphores) (handed_to t.processes (listed_of x.woken))) x.answer x.shown x.number
+    replied_of (with_processes (with_semaphores t x.semaphores) (handed_to t.processes (listed_of x.woken))) x.answer x.shown
     (wakes_of (map handover_wake (listed_of x.woken)))
 
 module _ (t : Table) where
@@ -82,28 +83,28 @@ module _ (t : Table) where
   given_none answer s = refl
 
   -- of one number, by a process that may make it
-  given_one : (released : Released) (then : Semaphores) → given_at t (given_by released t.semaphores then) ≡ outcome_of (released_by released t then)
+  given_one : (released : Result (Option ℕ) NotReleased) (then : Semaphores) → given_at t (given_by released t.semaphores then) ≡ outcome_of (released_by released t then)
   unfolding outcome_of listed_of none_of levelled with_of packed_of
-  given_one Released.Unusable then = given_none _ _
-  given_one (NotHolder level) then = refl
-  given_one Freed then = given_none _ _
-  given_one (HandedTo level) then = refl
+  given_one (Err NotReleased.Unusable) then = given_none _ _
+  given_one (Err (NotHolder level)) then = refl
+  given_one (Ok None) then = given_none _ _
+  given_one (Ok (Some level)) then = refl
 
   -- of all numbers
-  given_every : (caller : ℕ) → given_at t (giving Ok nothing (release_all_of t.semaphores caller).woken (release_all_of t.semaphores caller).semaphores) ≡ outcome_of (released_all_of t caller)
+  given_every : (caller : ℕ) → given_at t (giving Answer.Ok nothing (release_all_of t.semaphores caller).woken (release_all_of t.semaphores caller).semaphores) ≡ outcome_of (released_all_of t caller)
   unfolding outcome_of release_all_of released_all_of
   given_every caller = rw all_listed
 
   -- by what the checks decide
-  given_by_lem : (v : Verdict) (caller number : ℕ)
+  given_by_lem : (v : Checked) (caller number : ℕ)
       → given_at t (given_as v t.semaphores (released_for t.semaphores caller number))
       ≡ outcome_of (obeyed v t (pick (eqb number minus_one) (released_all_of t caller) (released_of t caller number)))
   unfolding obeyed released_for released_of
-  given_by_lem Passed caller number =
+  given_by_lem (Ok tt) caller number =
       by_test (eqb number minus_one)
       (λ all. rw all (given_every caller))
-      (λ one. rw one (given_one (releases_of t.semaphores caller number).released (releases_of t.semaphores caller number).semaphores))
-  given_by_lem (Refused answer) caller number = given_none answer t.semaphores
+      (λ one. rw one (given_one (released_in (releases_of t.semaphores caller number)) (after_release t.semaphores (releases_of t.semaphores caller number))))
+  given_by_lem (Err answer) caller number = given_none answer t.semaphores
 
 module _ (t : Table) (caller number : ℕ) (other : Process) (whole : length t.processes ≡ 12) where
   pub given_all : given_at t (given_of t.config (get_or t.processes (min caller 11) other) t.semaphores caller number) ≡ outcome_of (release_of t caller number)

@@ -1,6 +1,7 @@
 -- REQSEMA and RELSEMA leave a table that stands as tables stand along a run. Assumes nothing.
 use mathlib.Core.Path.{◌≡◌, ◌∙◌, ap, refl, sym, subst}
 use mathlib.Core.Bool.{true, false, ◌&&◌}
+use Rattle.std.specs.Prelude.{Option, Some, None, Result, Ok, Err}
 use mathlib.Core.List.{List, [], ◌∷◌, ◌++◌, map, map-append}
 use Prim.Native.Nat.{ℕ, zero, suc, ◌+◌, ◌<◌, min}
 use native.Mathlib.Omega.{arith}
@@ -8,6 +9,7 @@ use lib.Dec.{eqb}
 use lib.ListN.{length, get_or, set, take, length-set, length-append, length-take}
 use lib.Seq.{get_or-set_same, get_or-set_other, get_or-take}
 use borrow.Author.Tests.{eqb-true, eqb-false, eq-eqb, ne_eqb, lt-ltb, le-leb}
+use Rattle.std.specs.Prelude.{Option, Some}
 use Rattle.common.specs.Choice.{pick}
 use Rattle.common.specs.Keep.{keep_of}
 use Rattle.common.specs.Stands.{stands_in}
@@ -19,19 +21,16 @@ use Rattle.common.proofs.Once.{stands_here, stands_part, stands_either, stands_c
 use Rattle.common.proofs.Parts.{left, part_all, part_map}
 use Rattle.process.specs.declared.Process.{Process}
 use Rattle.process.specs.declared.states.Cause.TheVariants.{WaitForSemaphore, Handover}
-use Rattle.process.specs.declared.states.Next.{Next}
-use Rattle.process.specs.declared.states.Next.TheVariants.{To}
 use Rattle.process.specs.declared.states.State.{State}
 use Rattle.process.specs.declared.states.State.TheVariants.{Ready, WaitingForMessage, WaitingForSemaphore}
 use Rattle.process.specs.Process.{process_of, moved_to, moved_of}
 use Rattle.process.specs.States.{is_of, next_of}
 use Rattle.semaphores.specs.declared.queues.Queue.{Queue}
 use Rattle.semaphores.specs.declared.queues.Waiter.{Waiter}
-use Rattle.semaphores.specs.declared.Released.{Released}
-use Rattle.semaphores.specs.declared.Released.TheVariants.{Unusable, NotHolder, Freed, HandedTo}
+use Rattle.semaphores.specs.declared.NotReleased.{NotReleased}
 use Rattle.semaphores.specs.declared.Semaphores.{Semaphores}
 use Rattle.semaphores.specs.Queues.{list_of, waits_for, levels_for, without_first}
-use Rattle.semaphores.specs.Semaphores.{free, holder_of, waiters_of, waiter, held_by, holds_of, request_of as requests_of, release_of as releases_of, woken_of, released_from, woken_from}
+use Rattle.semaphores.specs.Semaphores.{requested_in, released_in, after_request, after_release, free, holder_of, waiters_of, waiter, held_by, holds_of, request_of as requests_of, release_of as releases_of, woken_of, released_from, woken_from}
 use Rattle.semaphores.specs.Turns.{waiting_of, requests, may_request, step_of, Orderly}
 use Rattle.semaphores.proofs.Effects.{by_request, Passed, release_held, release_not_held}
 use Rattle.semaphores.proofs.Orderly.{release_orderly, step_orderly, joined, room}
@@ -206,12 +205,12 @@ module _ (c : Config) where
 -- ---- the two moves
 
 -- a handover takes who waits for a semaphore to READY
-handed_next : (s : State) → is_of s WaitingForSemaphore ≡ true → next_of s Handover ≡ To Ready
+handed_next : (s : State) → is_of s WaitingForSemaphore ≡ true → next_of s Handover ≡ Some Ready
 unfolding next_of
 handed_next s waits = ap (λ (state : State). next_of state Handover) (state_known s WaitingForSemaphore waits)
 
 -- a request that has to wait takes who is READY to WR
-waits_next : (s : State) → is_of s Ready ≡ true → next_of s WaitForSemaphore ≡ To WaitingForSemaphore
+waits_next : (s : State) → is_of s Ready ≡ true → next_of s WaitForSemaphore ≡ Some WaitingForSemaphore
 unfolding next_of
 waits_next s ready = ap (λ (state : State). next_of state WaitForSemaphore) (state_known s Ready ready)
 
@@ -228,7 +227,7 @@ module _ (c : Config) (q r : Queue) (level : ℕ) (p : Process) (configured : co
       let times : times_of level q ≡ pick (is_of p.state WaitingForSemaphore) 1 0 = tests.1 in
       by_test (is_of p.state WaitingForSemaphore)
       (λ waits. let once : times_of level q ≡ 1 = rw waits at times in
-      subst (λ (next : Next). level_sound c r level (moved_to next p) ≡ true) (sym (handed_next p.state waits))
+      subst (λ (next : Option State). level_sound c r level (moved_to next p) ≡ true) (sym (handed_next p.state waits))
       (level_in c r level p Ready configured tests.0 refl (omega arith)))
       (λ other. let none : times_of level q ≡ 0 = rw other at times in absurd (omega arith))
 
@@ -240,7 +239,7 @@ module _ (c : Config) (q r : Queue) (level : ℕ) (p : Process) (configured : co
   level_waits : is_of p.state Ready ≡ true → times_of level r ≡ 1 → level_sound c r level (moved_of p WaitForSemaphore) ≡ true
   unfolding moved_of
   level_waits ready once =
-      subst (λ (next : Next). level_sound c r level (moved_to next p) ≡ true) (sym (waits_next p.state ready))
+      subst (λ (next : Option State). level_sound c r level (moved_to next p) ≡ true) (sym (waits_next p.state ready))
       (level_in c r level p WaitingForSemaphore configured (level_tests c q level p configured sound).0 refl once)
 
 -- ---- a release
@@ -302,7 +301,7 @@ module _ (c : Config) (number : ℕ) (s then : Semaphores) (ps : List Process) (
 
 -- and so does a release that is refused
 pub release_fits : (c : Config) (s : Semaphores) (ps : List Process) (level number : ℕ) → Fits c s ps
-    → Fits c (releases_of s level number).semaphores (handed_to ps (woken_of (releases_of s level number).released))
+    → Fits c (after_release s (releases_of s level number)) (handed_to ps (woken_of (released_in (releases_of s level number))))
 release_fits c s ps level number fits =
     by_test (holds_of s level number)
     (λ holds. rw (release_wakes s level number holds)
@@ -315,7 +314,7 @@ pub releases_fit : (many number level : ℕ) (c : Config) (s : Semaphores) (ps :
 unfolding released_from woken_from
 releases_fit zero number level c s ps fits = fits
 releases_fit (suc many) number level c s ps fits =
-    rw (fold_append _ ps (woken_of (releases_of s level number).released))
+    rw (fold_append _ ps (woken_of (released_in (releases_of s level number))))
     (releases_fit many (suc number) level c _ _ (release_fits c s ps level number fits))
 
 -- ---- a request
@@ -421,9 +420,9 @@ module _ (t : Table) (steady : Steady t) where
       let s : Semaphores = t.semaphores in
       let ps : List Process = t.processes in
       let lets : may_request s caller ≡ true = caller_may t.config s ps caller number steady_fits configured ready in
-      let orderly : Orderly (requests_of s caller number).semaphores = rw lets at (step_orderly (requests caller number) s steady.orderly) in
+      let orderly : Orderly (after_request s (requests_of s caller number)) = rw lets at (step_orderly (requests caller number) s steady.orderly) in
       by_request
-      (λ request. Orderly request.semaphores → Steady (requested_by request.requested t request.semaphores caller).table)
+      (λ request. Orderly (after_request s request) → Steady (requested_by (requested_in request) t (after_request s request) caller).table)
       s caller number
       (λ unusable then. steady)
       (λ usable was_free then. fits_steady _ ps (held_fits t.config s ps caller number steady_fits configured ready then))
@@ -432,18 +431,18 @@ module _ (t : Table) (steady : Steady t) where
       orderly
 
   -- what a release of one number came to
-  by_released : (r : Released) (s : Semaphores) → Fits t.config s (handed_to t.processes (woken_of r)) → Keeps (released_by r t s)
+  by_released : (r : Result (Option ℕ) NotReleased) (s : Semaphores) → Fits t.config s (handed_to t.processes (woken_of r)) → Keeps (released_by r t s)
   unfolding Keeps
-  by_released Unusable s fits = steady
-  by_released (NotHolder level) s fits = steady
-  by_released Freed s fits = fits_steady s _ fits
-  by_released (HandedTo level) s fits = fits_steady s _ fits
+  by_released (Err NotReleased.Unusable) s fits = steady
+  by_released (Err (NotReleased.NotHolder level)) s fits = steady
+  by_released (Ok None) s fits = fits_steady s _ fits
+  by_released (Ok (Some level)) s fits = fits_steady s _ fits
 
   -- a release of one number
   released_keeps : (caller number : ℕ) → Keeps (released_of t caller number)
   unfolding released_of
   released_keeps caller number =
-      by_released (releases_of t.semaphores caller number).released (releases_of t.semaphores caller number).semaphores
+      by_released (released_in (releases_of t.semaphores caller number)) (after_release t.semaphores (releases_of t.semaphores caller number))
       (release_fits t.config t.semaphores t.processes caller number steady_fits)
 
   -- a release of all that the caller holds

@@ -1,5 +1,5 @@
 -- Document 01, "Semaphores", and document 02, §3: REQSEMA and RELSEMA on the whole table.
-use Rattle.std.specs.Prelude.{List, [], ◌∷◌, map, ℕ, min, eqb, set, take}
+use Rattle.std.specs.Prelude.{Option, Some, None, Result, Ok, Err, List, [], ◌∷◌, map, ℕ, min, eqb, set, take}
 use Rattle.common.specs.Choice.{pick}
 use Rattle.common.specs.Fold.{fold_of}
 use Rattle.inputs.specs.InputSet.{empty_of}
@@ -8,15 +8,16 @@ use Rattle.process.specs.declared.states.Cause.TheVariants.{WaitForSemaphore, Ha
 use Rattle.process.specs.Messages.{zeros}
 use Rattle.process.specs.Process.{moved_of}
 use Rattle.semaphores.specs.declared.queues.Levels.{Levels}
+use Rattle.semaphores.specs.declared.Unusable.{Unusable}
 use Rattle.semaphores.specs.declared.Requested.{Requested}
-use Rattle.semaphores.specs.declared.Requested.TheVariants.{Unusable, Held, Waits}
-use Rattle.semaphores.specs.declared.Released.{Released}
-use Rattle.semaphores.specs.declared.Released.TheVariants.{NotHolder, Freed, HandedTo}
+use Rattle.semaphores.specs.declared.Requested.TheVariants.{Held, Waits}
+use Rattle.semaphores.specs.declared.NotReleased.{NotReleased}
+use Rattle.semaphores.specs.declared.NotReleased.TheVariants.{NotHolder}
 use Rattle.semaphores.specs.declared.Semaphores.{Semaphores}
 use Rattle.semaphores.specs.Queues.{none_of, with_of}
-use Rattle.semaphores.specs.Semaphores.{request_of as requests_of, release_of as releases_of, released_from, woken_from, release_all_of}
+use Rattle.semaphores.specs.Semaphores.{requested_in, released_in, after_request, after_release, request_of as requests_of, release_of as releases_of, released_from, woken_from, release_all_of}
 use Rattle.table.specs.declared.answers.Answer.{Answer}
-use Rattle.table.specs.declared.answers.Answer.TheVariants.{Ok, ParameterError, NoSemaphoreNumber, Suspended}
+use Rattle.table.specs.declared.answers.Answer.TheVariants.{ParameterError, NoSemaphoreNumber, Suspended}
 use Rattle.table.specs.declared.configs.Config.{Config}
 use Rattle.table.specs.declared.wakes.Wake.{Wake}
 use Rattle.table.specs.declared.wakes.Wakes.{Wakes}
@@ -24,24 +25,22 @@ use Rattle.table.specs.declared.wakes.Woken.TheVariants.{ByHandover}
 use Rattle.table.specs.declared.Table.{Table}
 use Rattle.table.specs.Wakes.{wake_push_of}
 use Rattle.table.specs.Words.{minus_one}
-use Rattle.calls.specs.Effects.{Carried, nothing, shown_by, number_by, Effect, refuse, refuse_telling, done, suspended, waking}
+use Rattle.calls.specs.Effects.{Carried, nothing, shown_by, Effect, refuse, refuse_telling, done, suspended, waking}
 use Rattle.calls.specs.Effects as Effects
 use Rattle.calls.specs.Levels.{process_at, with_processes, with_semaphores, moving}
-use Rattle.calls.specs.declared.Verdict.{Verdict}
-use Rattle.calls.specs.declared.Verdict.TheVariants.{Passed, Refused}
-use Rattle.calls.specs.Verdicts.{by_caller, called}
+use Rattle.calls.specs.Verdicts.{Checked, by_caller, called}
 use Rattle.holding.specs.declared.AfterRequest.{AfterRequest}
 use Rattle.holding.specs.declared.AfterRelease.{AfterRelease}
 
 -- "6 if not usable; free: the caller holds it; already its own: OK, held once; held by another: 32, WR, last in that queue"
-abbrev pub requested_by : Requested → Table → Semaphores → ℕ → Effect
-requested_by Unusable t semaphores caller = refuse t ParameterError
-requested_by Held t semaphores caller = done (with_semaphores t semaphores)
-requested_by Waits t semaphores caller = suspended (moving (with_semaphores t semaphores) caller WaitForSemaphore)
+abbrev pub requested_by : Result Requested Unusable → Table → Semaphores → ℕ → Effect
+requested_by (Err why) t semaphores caller = refuse t ParameterError
+requested_by (Ok Held) t semaphores caller = done (with_semaphores t semaphores)
+requested_by (Ok Waits) t semaphores caller = suspended (moving (with_semaphores t semaphores) caller WaitForSemaphore)
 
 unfoldable pub requested_of : Table → ℕ → ℕ → Effect
 requested_of t caller number =
-    requested_by (requests_of t.semaphores caller number).requested t (requests_of t.semaphores caller number).semaphores caller
+    requested_by (requested_in (requests_of t.semaphores caller number)) t (after_request t.semaphores (requests_of t.semaphores caller number)) caller
 
 -- "REQSEMA: .."
 unfoldable pub request_of : Table → ℕ → ℕ → Effect
@@ -49,7 +48,7 @@ request_of t caller number = called t caller [] (requested_of t caller number)
 
 -- who waited for a semaphore wakes when it is its own: 0 alone
 abbrev pub handover_wake : ℕ → Wake
-handover_wake level = record { level = level; woken = ByHandover; message = zeros; inputs = empty_of }
+handover_wake level = record { level = level; woken = ByHandover }
 
 abbrev pub handed_at : List Process → ℕ → List Process
 handed_at processes level = set processes level (moved_of (process_at processes level) Handover)
@@ -60,18 +59,18 @@ handed_to processes levels = fold_of handed_at processes levels
 
 -- a table of these semaphores, and these levels woken
 abbrev pub handing : Table → Semaphores → List ℕ → Effect
-handing t semaphores levels = waking Ok (map handover_wake levels) (with_processes (with_semaphores t semaphores) (handed_to t.processes levels))
+handing t semaphores levels = waking Answer.Ok (map handover_wake levels) (with_processes (with_semaphores t semaphores) (handed_to t.processes levels))
 
 -- "one number, .." and document 02, §3: "15, then 37 NOTHOLDER with the holder's level, or 255 if free". "At a release the first waiter becomes holder and
 -- wakes."
-abbrev pub released_by : Released → Table → Semaphores → Effect
-released_by Released.Unusable t semaphores = refuse t NoSemaphoreNumber
-released_by (NotHolder level) t semaphores = refuse_telling t level
-released_by Freed t semaphores = handing t semaphores []
-released_by (HandedTo level) t semaphores = handing t semaphores (level ∷ [])
+abbrev pub released_by : Result (Option ℕ) NotReleased → Table → Semaphores → Effect
+released_by (Err NotReleased.Unusable) t semaphores = refuse t NoSemaphoreNumber
+released_by (Err (NotHolder level)) t semaphores = refuse_telling t level
+released_by (Ok None) t semaphores = handing t semaphores []
+released_by (Ok (Some level)) t semaphores = handing t semaphores (level ∷ [])
 
 unfoldable pub released_of : Table → ℕ → ℕ → Effect
-released_of t caller number = released_by (releases_of t.semaphores caller number).released t (releases_of t.semaphores caller number).semaphores
+released_of t caller number = released_by (released_in (releases_of t.semaphores caller number)) t (after_release t.semaphores (releases_of t.semaphores caller number))
 
 -- "-1 for all that the caller holds, rising, OK even if none"
 unfoldable pub released_all_of : Table → ℕ → Effect
@@ -86,39 +85,39 @@ release_of t caller number = called t caller [] (pick (eqb number minus_one) (re
 abbrev pub asking : Answer → Process → Semaphores → AfterRequest
 asking answer p s = record { answer = answer; process = p; semaphores = s }
 
-abbrev pub asked_by : Requested → Process → Semaphores → Semaphores → AfterRequest
-asked_by Unusable p s then = asking ParameterError p s
-asked_by Held p s then = asking Ok p then
-asked_by Waits p s then = asking Suspended (moved_of p WaitForSemaphore) then
+abbrev pub asked_by : Result Requested Unusable → Process → Semaphores → Semaphores → AfterRequest
+asked_by (Err why) p s then = asking ParameterError p s
+asked_by (Ok Held) p s then = asking Answer.Ok p then
+asked_by (Ok Waits) p s then = asking Suspended (moved_of p WaitForSemaphore) then
 
 unfoldable pub requested_for : Process → Semaphores → ℕ → ℕ → AfterRequest
-requested_for p s caller number = asked_by (requests_of s caller number).requested p s (requests_of s caller number).semaphores
+requested_for p s caller number = asked_by (requested_in (requests_of s caller number)) p s (after_request s (requests_of s caller number))
 
-abbrev pub asked_as : Verdict → Process → Semaphores → AfterRequest → AfterRequest
-asked_as Passed p s asked = asked
-asked_as (Refused answer) p s asked = asking answer p s
+abbrev pub asked_as : Checked → Process → Semaphores → AfterRequest → AfterRequest
+asked_as (Ok tt) p s asked = asked
+asked_as (Err answer) p s asked = asking answer p s
 
 unfoldable pub asked_of : Config → Process → Semaphores → ℕ → ℕ → AfterRequest
 asked_of c p s caller number = asked_as (by_caller c p caller) p s (requested_for p s caller number)
 
 abbrev pub giving : Answer → Carried → Levels → Semaphores → AfterRelease
-giving answer carried woken s = record { answer = answer; shown = shown_by carried; number = number_by carried; woken = woken; semaphores = s }
+giving answer carried woken s = record { answer = answer; shown = shown_by carried; woken = woken; semaphores = s }
 
-abbrev pub given_by : Released → Semaphores → Semaphores → AfterRelease
-given_by Released.Unusable s then = giving NoSemaphoreNumber nothing none_of s
-given_by (NotHolder level) s then = giving Answer.NotHolder (Effects.number level) none_of s
-given_by Freed s then = giving Ok nothing none_of then
-given_by (HandedTo level) s then = giving Ok nothing (with_of none_of level) then
+abbrev pub given_by : Result (Option ℕ) NotReleased → Semaphores → Semaphores → AfterRelease
+given_by (Err NotReleased.Unusable) s then = giving NoSemaphoreNumber nothing none_of s
+given_by (Err (NotHolder level)) s then = giving Answer.NotHolder (Effects.number level) none_of s
+given_by (Ok None) s then = giving Answer.Ok nothing none_of then
+given_by (Ok (Some level)) s then = giving Answer.Ok nothing (with_of none_of level) then
 
 unfoldable pub released_for : Semaphores → ℕ → ℕ → AfterRelease
 released_for s caller number =
     pick (eqb number minus_one)
-    (giving Ok nothing (release_all_of s caller).woken (release_all_of s caller).semaphores)
-    (given_by (releases_of s caller number).released s (releases_of s caller number).semaphores)
+    (giving Answer.Ok nothing (release_all_of s caller).woken (release_all_of s caller).semaphores)
+    (given_by (released_in (releases_of s caller number)) s (after_release s (releases_of s caller number)))
 
-abbrev pub given_as : Verdict → Semaphores → AfterRelease → AfterRelease
-given_as Passed s given = given
-given_as (Refused answer) s given = giving answer nothing none_of s
+abbrev pub given_as : Checked → Semaphores → AfterRelease → AfterRelease
+given_as (Ok tt) s given = given
+given_as (Err answer) s given = giving answer nothing none_of s
 
 unfoldable pub given_of : Config → Process → Semaphores → ℕ → ℕ → AfterRelease
 given_of c p s caller number = given_as (by_caller c p caller) s (released_for s caller number)

@@ -6,7 +6,7 @@ use native.Mathlib.Nat.{div-one, one-mul}
 use native.Mathlib.Numerals.{one-add}
 use native.Mathlib.Omega.{arith}
 use lib.Arith.{lt-one}
-use lib.Bits.{bit_and, bit_or, bit_xor, and_shr, or_shr, xor_shr, and_mod, or_mod, xor_mod, and_lt, or_lt, xor_lt}
+use lib.Bits.{bit_and, bit_or, bit_xor, and_shr, or_shr, xor_shr, and_mod, or_mod, xor_mod}
 use lib.Dec.{eqb, ltb, lit<, leb-zero, leb-suc-zero, leb-suc-suc}
 use lib.Pow.{pow_pos, pow_mono, ones_lt, shr-shr, shl_exact}
 use borrow.Author.Tests.{ltb-true, ltb-false, lt-ltb, le-ltb}
@@ -59,34 +59,31 @@ other_digits bit others = omega (arith, digit_small bit)
 
 -- ---- the operators
 
--- an operator does to bit k of its operands what is said of bits, and its result is no longer than they are
+-- an operator does to bit k of its operands what is said of bits
 pub record Bitwise (operator : ℕ → ℕ → ℕ) (said : Bool → Bool → Bool) : Type 0 where
   pub bit : (a b k : ℕ) → bit_of (operator a b) k ≡ said (bit_of a k) (bit_of b k)
-  pub small : (bits a b : ℕ) → a < 2 ^ bits → b < 2 ^ bits → operator a b < 2 ^ bits
 
 -- so it is with an operator that shifts and cuts as its operands do, and does to digits what is said
 bitwise : {operator : ℕ → ℕ → ℕ} {said : Bool → Bool → Bool}
     → ((a b k : ℕ) → operator a b / 2 ^ k ≡ operator (a / 2 ^ k) (b / 2 ^ k))
     → ((a b k : ℕ) → operator a b % 2 ^ k ≡ operator (a % 2 ^ k) (b % 2 ^ k))
-    → ((x y : Bool) → eqb (operator (pick x 1 0) (pick y 1 0)) 1 ≡ said x y)
-    → ((bits a b : ℕ) → a < 2 ^ bits → b < 2 ^ bits → operator a b < 2 ^ bits) → Bitwise operator said
-bitwise {operator} {said} shift cut digits small = record {
+    → ((x y : Bool) → eqb (operator (pick x 1 0) (pick y 1 0)) 1 ≡ said x y) → Bitwise operator said
+bitwise {operator} {said} shift cut digits = record {
   bit = λ a b k.
       let x : ℕ = a / 2 ^ k % 2 in
       let y : ℕ = b / 2 ^ k % 2 in
       let lowest : operator a b / 2 ^ k % 2 ≡ operator x y = ap (λ w. w % 2) (shift a b k) ∙ cut (a / 2 ^ k) (b / 2 ^ k) 1 in
       let told : operator (pick (eqb x 1) 1 0) (pick (eqb y 1) 1 0) ≡ operator x y = ap₂ operator (digit_of_bit x (omega arith)) (digit_of_bit y (omega arith)) in
       bit_shifted (operator a b) k ∙ ap (λ w. eqb w 1) (lowest ∙ sym told) ∙ digits (eqb x 1) (eqb y 1) ∙ sym (ap₂ said (bit_shifted a k) (bit_shifted b k));
-  small = small;
 }
 
 -- `a | b`
 pub or_bitwise : Bitwise bit_or (λ x y. pick x true y)
-or_bitwise = bitwise or_shr or_mod (by_bits _ refl refl refl refl) or_lt
+or_bitwise = bitwise or_shr or_mod (by_bits _ refl refl refl refl)
 
 -- `a & b`
 pub and_bitwise : Bitwise bit_and (λ x y. pick x y false)
-and_bitwise = bitwise and_shr and_mod (by_bits _ refl refl refl refl) and_lt
+and_bitwise = bitwise and_shr and_mod (by_bits _ refl refl refl refl)
 
 -- `a ^ a & b`
 pub except_bitwise : Bitwise (λ a b. bit_xor a (bit_and a b)) (λ x y. pick x (not y) false)
@@ -95,7 +92,6 @@ except_bitwise =
     (λ a b k. xor_shr a (bit_and a b) k ∙ ap (bit_xor (a / 2 ^ k)) (and_shr a b k))
     (λ a b k. xor_mod a (bit_and a b) k ∙ ap (bit_xor (a % 2 ^ k)) (and_mod a b k))
     (by_bits _ refl refl refl refl)
-    (λ bits a b ha hb. xor_lt bits a (bit_and a b) ha (and_lt bits a b ha hb))
 
 -- ---- words and their bits
 

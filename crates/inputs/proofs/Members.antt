@@ -11,10 +11,10 @@ use lib.Count.{ones, ones_step, ones-ones, count_trailing_zeros, under}
 use lib.Dec.{eqb, eqb-suc-zero, lit<}
 use lib.ListN.{length, get_or, length-append}
 use borrow.Author.Tests.{ne_eqb}
+use Rattle.std.specs.Prelude.{Option, Some}
+use Rattle.std.specs.List.{sum_by}
 use Rattle.common.specs.Choice.{pick}
 use Rattle.inputs.specs.declared.InputSet.{InputSet}
-use Rattle.inputs.specs.declared.NextInput.{NextInput}
-use Rattle.inputs.specs.declared.NextInput.TheVariants.{Input}
 use Rattle.inputs.specs.InputSet.{word_of, has_of, rising_of, members_of, count_of, first_of}
 use Rattle.inputs.proofs.Bits.{lowest_digit, other_digits}
 use Rattle.inputs.proofs.Sets.{FourWords, word_known}
@@ -56,8 +56,8 @@ rising_ones (suc bits) from test =
     ∙ sym (ap ones (word_from bits from test) ∙ ones_more (test from) (word_of bits (λ k. test (suc from + k))))
 
 -- the first of the numbers that a word tells and of others after them: at the word's trailing zeros, unless the word is 0
-abbrev first_at : ℕ → ℕ → ℕ → List ℕ → NextInput
-first_at bits from word others = pick (eqb word 0) (first_of others) (Input (from + count_trailing_zeros bits word))
+abbrev first_at : ℕ → ℕ → ℕ → List ℕ → Option ℕ
+first_at bits from word others = pick (eqb word 0) (first_of others) (Some (from + count_trailing_zeros bits word))
 
 -- what is so of a word's other digits is so of the word
 first_more : (bit : Bool) (bits from word : ℕ) (l others : List ℕ) → first_of (l ++ others) ≡ first_at bits (suc from) word others
@@ -108,7 +108,7 @@ module _ (set : InputSet) (words : FourWords set) (at : ℕ) (h : at < 4) where
   rest_first = rw (rest_step set at h, rising_first, own_word)
 
   -- the lowest input, from a word on that is not 0
-  pub next_here : (get_or set.words at 0 ≡ 0 → ⊥) → first_of (rest_of set at) ≡ Input (64 * at + count_trailing_zeros 64 (get_or set.words at 0))
+  pub next_here : (get_or set.words at 0 ≡ 0 → ⊥) → first_of (rest_of set at) ≡ Some (64 * at + count_trailing_zeros 64 (get_or set.words at 0))
   next_here some = rest_first ∙ rw (ne_eqb (get_or set.words at 0) 0 some)
 
   -- and from a word on that is 0
@@ -129,10 +129,24 @@ count_ones set words =
       ap length (rest_none set),
     )
 
+-- the ones of four words, summed
+ones_four : (words : List ℕ) → length words ≡ 4
+    → sum_by ones words ≡ ones (get_or words 0 0) + ones (get_or words 1 0) + ones (get_or words 2 0) + ones (get_or words 3 0)
+ones_four [] h = cc
+ones_four (a ∷ []) h = cc
+ones_four (a ∷ b ∷ []) h = cc
+ones_four (a ∷ b ∷ c ∷ []) h = cc
+ones_four (a ∷ b ∷ c ∷ d ∷ []) h = omega arith
+ones_four (a ∷ b ∷ c ∷ d ∷ e ∷ l) h = absurd (omega arith)
+
+-- and so the sum of a set's is how many inputs it holds
+pub count_sum : (set : InputSet) → FourWords set → count_of set ≡ sum_by ones set.words
+count_sum set words = count_ones set words ∙ sym (ones_four set.words words.four)
+
 -- the zeros below a digit 0 and those above it are within one bit more
-under_within : (digit zeros bits : ℕ) → (digit ≡ 0 → zeros < bits) → under digit zeros < suc bits
-under_within zero zeros bits h = suc-le-suc (h refl)
-under_within (suc digit) zeros bits h = suc-le-suc zero-le
+under_within : (digit below bits : ℕ) → (digit ≡ 0 → below < bits) → under digit below < suc bits
+under_within zero below bits h = suc-le-suc (h refl)
+under_within (suc digit) below bits h = suc-le-suc zero-le
 
 -- a word that is not 0 has fewer trailing zeros than bits
 pub trailing_within : (bits word : ℕ) → word < 2 ^ bits → (word ≡ 0 → ⊥) → count_trailing_zeros bits word < bits

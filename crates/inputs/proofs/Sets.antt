@@ -1,7 +1,6 @@
 -- Sets by the inputs that they hold: a set is known by them, and the laws of what each operation's result holds. Assumes nothing.
 use mathlib.Core.Path.{◌≡◌, refl, sym, ap, ap₂, ◌∙◌}
 use mathlib.Core.Bool.{Bool, true, false, not}
-use mathlib.Core.List.{[], ◌∷◌}
 use Prim.Native.Nat.{ℕ, zero, suc, ◌+◌, ◌*◌, ◌/◌, ◌%◌, ◌<◌}
 use native.Mathlib.Nat.{zero-add}
 use native.Mathlib.Omega.{arith}
@@ -78,29 +77,13 @@ set_same f g agree = set_known (set_of f) g (set_words f) (λ n h. has_set f n h
 
 -- ---- an operator of words, on all four words of two sets
 
--- the set whose words the operator makes
-abbrev pub joined : (ℕ → ℕ → ℕ) → InputSet → InputSet → InputSet
-joined operator a b = record {
-  words =
-      operator (get_or a.words 0 0) (get_or b.words 0 0)
-      ∷ operator (get_or a.words 1 0) (get_or b.words 1 0)
-      ∷ operator (get_or a.words 2 0) (get_or b.words 2 0)
-      ∷ operator (get_or a.words 3 0) (get_or b.words 3 0)
-      ∷ [];
-}
-
-module _ {operator : ℕ → ℕ → ℕ} {said : Bool → Bool → Bool} (by : Bitwise operator said) (a b : InputSet) where
-  -- its word i is made of the words i of the two
-  joined_at : (i : ℕ) → i < 4 → get_or (joined operator a b).words i 0 ≡ operator (get_or a.words i 0) (get_or b.words i 0)
-  joined_at = by_four _ refl refl refl refl
-
-  -- what is said of bits holds of inputs
-  pub joined_set : FourWords a → FourWords b → joined operator a b ≡ set_of (λ n. said (has_of a n) (has_of b n))
-  unfolding has_of
-  joined_set ha hb =
-      set_known (joined operator a b) (λ n. said (has_of a n) (has_of b n))
-      (record { four = refl; small = λ i h. record { fits = rw (joined_at i h) (by.small 64 _ _ (ha.small i h).fits (hb.small i h).fits) } })
-      (λ n h. ap (λ w. bit_of w (n % 64)) (joined_at (n / 64) (omega arith)) ∙ by.bit _ _ (n % 64))
+-- a set whose words the operator makes of the words of the two: what is said of bits holds of inputs
+pub combined_set : {operator : ℕ → ℕ → ℕ} {said : Bool → Bool → Bool} → Bitwise operator said → (a b result : InputSet) → FourWords result
+    → ((i : ℕ) → i < 4 → get_or result.words i 0 ≡ operator (get_or a.words i 0) (get_or b.words i 0))
+    → result ≡ set_of (λ n. said (has_of a n) (has_of b n))
+unfolding has_of
+combined_set by a b result words made =
+    set_known result _ words (λ n h. ap (λ w. bit_of w (n % 64)) (made (n / 64) (omega arith)) ∙ by.bit _ _ (n % 64))
 
 -- ---- the operations that are made of others
 

@@ -1,9 +1,7 @@
 -- Document 01, "Inputs". A set of inputs 0..255 is four words of 64 bits, and each operation is said by the inputs that its result holds.
-use Rattle.std.specs.Prelude.{Bool, true, false, not, List, [], ◌∷◌, ℕ, zero, suc, ◌+◌, ◌*◌, ◌/◌, ◌%◌, eqb, leb, ltb, length, get_or}
+use Rattle.std.specs.Prelude.{Bool, true, false, not, Option, Some, None, List, [], ◌∷◌, ℕ, zero, suc, ◌+◌, ◌*◌, ◌/◌, ◌%◌, eqb, leb, ltb, length, get_or}
 use Rattle.common.specs.Choice.{pick}
 use Rattle.inputs.specs.declared.InputSet.{InputSet}
-use Rattle.inputs.specs.declared.NextInput.{NextInput}
-use Rattle.inputs.specs.declared.NextInput.TheVariants.{Input, NoMore}
 
 -- bit k of a word: the lowest is the word's remainder by 2, and the others are those of its half
 unfoldable pub bit_of : ℕ → ℕ → Bool
@@ -74,19 +72,19 @@ members_of set = rising_of 256 0 (has_of set)
 unfoldable pub count_of : InputSet → ℕ
 count_of set = length (members_of set)
 
--- the first of a list of inputs
-abbrev pub first_of : List ℕ → NextInput
-first_of [] = NoMore
-first_of (n ∷ l) = Input n
+-- the first of a list of inputs, if there is one
+abbrev pub first_of : List ℕ → Option ℕ
+first_of [] = None
+first_of (n ∷ l) = Some n
 
--- the lowest input of a set
-unfoldable pub next_of : InputSet → NextInput
+-- the lowest input of a set, if there is one
+unfoldable pub next_of : InputSet → Option ℕ
 next_of set = first_of (members_of set)
 
 -- an input that was told, and what its teller goes on with
-abbrev pub told_then : NextInput → (ℕ → List ℕ) → List ℕ
-told_then NoMore rest = []
-told_then (Input n) rest = n ∷ rest n
+abbrev pub told_then : Option ℕ → (ℕ → List ℕ) → List ℕ
+told_then None rest = []
+told_then (Some n) rest = n ∷ rest n
 
 -- a host's walk of a set: so many times, the next input is told and taken out
 unfoldable pub walk_of : ℕ → InputSet → List ℕ

@@ -1,7 +1,7 @@
 // Sets of inputs 0..255: what an owner's mask, the latches and the answer of AWAITINTERRUPT are.
 #![tactic(auto)]
 
-ghost use Rattle.std.specs.Prelude.{◌≡◌};
+ghost use Rattle.std.specs.Prelude.{◌≡◌, EachIndex, slice_index};
 ghost use Rattle.inputs.specs.InputSet.{has_of, empty_of, single_of, below_of, insert_of, remove_of, either_of, both_of, except_of, run_of, count_of, next_of};
 
 mod word;
@@ -10,13 +10,6 @@ mod word;
 #[derive(Clone, Copy)]
 pub struct InputSet {
     pub words: [u64; 4],
-}
-
-// The lowest input of a set, or that it has none.
-#[derive(Clone, Copy)]
-pub enum NextInput {
-    Input(u8),
-    NoMore,
 }
 
 // The set of one input.
@@ -57,9 +50,8 @@ impl InputSet {
     pub fn has(self, input: u8) -> bool
         ensures { result ≡ has_of self input }
     {
-        let words = self.words;
-        let at = (input / 64) as usize;
-        (words[at] >> (input % 64)) % 2 == 1
+        let word = self.words[(input / 64) as usize];
+        (word >> (input % 64)) % 2 == 1
     }
 
     pub fn insert(self, input: u8) -> InputSet
@@ -74,66 +66,61 @@ impl InputSet {
         self.except(single(input))
     }
 
-    // The inputs that are in one set or the other.
-    pub fn either(self, other: InputSet) -> InputSet
-        ensures { result ≡ either_of self other }
+    // The set whose words are those that an operator makes of the words of two sets.
+    fn combined<F: Fn(u64, u64) -> u64>(self, other: InputSet, operator: F) -> InputSet
+        requires { F.IsAlwaysCallable operator }
+        ensures { EachIndex result.words (λ at. F.post operator (slice_index self.words at) (slice_index other.words at) (slice_index result.words at)) }
     {
         let a = self.words;
         let b = other.words;
         InputSet {
-            words: [a[0] | b[0], a[1] | b[1], a[2] | b[2], a[3] | b[3]],
+            words: [
+                operator(a[0], b[0]),
+                operator(a[1], b[1]),
+                operator(a[2], b[2]),
+                operator(a[3], b[3]),
+            ],
         }
+    }
+
+    // The inputs that are in one set or the other.
+    pub fn either(self, other: InputSet) -> InputSet
+        ensures { result ≡ either_of self other }
+    {
+        self.combined(other, |a, b| a | b)
     }
 
     // The inputs that are in both sets.
     pub fn both(self, other: InputSet) -> InputSet
         ensures { result ≡ both_of self other }
     {
-        let a = self.words;
-        let b = other.words;
-        InputSet {
-            words: [a[0] & b[0], a[1] & b[1], a[2] & b[2], a[3] & b[3]],
-        }
+        self.combined(other, |a, b| a & b)
     }
 
     // The inputs that are in this set and not in the other.
     pub fn except(self, other: InputSet) -> InputSet
         ensures { result ≡ except_of self other }
     {
-        let a = self.words;
-        let b = other.words;
-        InputSet {
-            words: [
-                a[0] ^ a[0] & b[0],
-                a[1] ^ a[1] & b[1],
-                a[2] ^ a[2] & b[2],
-                a[3] ^ a[3] & b[3],
-            ],
-        }
+        self.combined(other, |a, b| a ^ a & b)
     }
 
     // How many inputs the set holds: the ones of its words.
     pub fn count(self) -> u32
         ensures { result ≡ count_of self }
     {
-        let words = self.words;
-        word::ones(words[0]) + word::ones(words[1]) + word::ones(words[2]) + word::ones(words[3])
+        self.words.iter().map(|word| word.count_ones()).sum()
     }
 
-    // The lowest input: the trailing zeros of the first word that is not 0. A host that takes it out and asks again, as
-    // often as the count says, walks the set in rising order.
-    pub fn next(self) -> NextInput
+    // The lowest input, if there is one: the trailing zeros of the first word that is not 0. A host that takes it out and asks
+    // again, as often as the count says, walks the set in rising order.
+    pub fn next(self) -> Option<u8>
         ensures { result ≡ next_of self }
     {
-        let words = self.words;
-        let mut at: u8 = 0;
-        while at < 4 {
-            let word = words[at as usize];
-            if word != 0 {
-                return NextInput::Input(64 * at + u64::trailing_zeros(word) as u8);
+        for (at, word) in self.words.iter().enumerate() {
+            if *word != 0 {
+                return Some(64 * at as u8 + word.trailing_zeros() as u8);
             }
-            at += 1;
         }
-        NextInput::NoMore
+        None
     }
 }

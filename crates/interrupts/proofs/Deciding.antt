@@ -8,6 +8,7 @@ use lib.Dec.{eqb, ltb}
 use lib.ListN.{length, get_or, get_or-eq_default}
 use lib.Seq.{set-get_or}
 use borrow.Author.Tests.{ltb-true, ltb-false}
+use Rattle.std.specs.Prelude.{Option, Some, None}
 use Rattle.common.proofs.Cases.{by_test}
 use Rattle.common.proofs.Lists.{get_or_within}
 use Rattle.inputs.specs.InputSet.{count_of}
@@ -16,8 +17,6 @@ use Rattle.process.specs.declared.states.State.TheVariants.{Ready}
 use Rattle.process.specs.Process.{fresh_of}
 use Rattle.process.specs.States.{is_of}
 use Rattle.table.specs.declared.answers.Answer.TheVariants.{Ok, NotReady}
-use Rattle.table.specs.declared.configs.Privilege.{Privilege}
-use Rattle.table.specs.declared.configs.Privilege.TheVariants.{Owns, Nobody}
 use Rattle.table.specs.declared.configs.Privileged.{Privileged}
 use Rattle.table.specs.declared.Outcome.{Outcome}
 use Rattle.table.specs.declared.Table.{Table}
@@ -37,13 +36,13 @@ use Rattle.interrupts.specs.Interrupts.{came_of, awaiting_of, awaiting_by, await
 
 module _ (t : Table) (caller : ℕ) where
   -- of a process that may call, whether it owns inputs or not
-  awaits_told : (owned : Privilege) → decided_at t caller (awaited_by owned (process_of t caller) t.mask t.latch) ≡ outcome_of (awaiting_by owned t caller)
+  awaits_told : (owned : Option Privileged) → decided_at t caller (awaited_by owned (process_of t caller) t.mask t.latch) ≡ outcome_of (awaiting_by owned t caller)
   unfolding told_of outcome_of no_wakes_of process_at awaiting_for awaiting_of
-  awaits_told (Owns place) =
+  awaits_told (Some place) =
       by_test (eqb (count_of (came_of t place)) 0)
       (λ none. rw none)
       (λ some. rw (some, set-get_or))
-  awaits_told Nobody = rw set-get_or
+  awaits_told None = rw set-get_or
 
 -- the record that is looked at is the caller's own, or it makes no difference
 module _ (t : Table) (caller : ℕ) (other : Process) (whole : length t.processes ≡ 12) where

@@ -7,6 +7,8 @@ use native.Mathlib.Omega.{arith}
 use lib.Dec.{eqb, leb, leb-zero}
 use lib.ListN.{length}
 use borrow.Author.Tests.{eqb-true, eq-eqb, ne_eqb, leb-false, lt-leb, ltb-true}
+use Rattle.std.specs.Prelude.{Ok}
+use Rattle.std.specs.Prelude.{Option, Some, None}
 use Rattle.common.specs.Choice.{pick}
 use Rattle.common.specs.Stands.{stands_in}
 use Rattle.common.proofs.Cases.{by_test, by_pick, never_both, both_true}
@@ -19,13 +21,11 @@ use Rattle.process.specs.declared.states.Cause.TheVariants.{WaitForEvent, Event}
 use Rattle.process.specs.States.{is_of, next_of}
 use Rattle.table.specs.declared.answers.Answer.TheVariants.{CommandPrivileged, IllegalInput}
 use Rattle.table.specs.declared.configs.Config.{Config}
-use Rattle.table.specs.declared.configs.Privilege.{Privilege}
-use Rattle.table.specs.declared.configs.Privilege.TheVariants.{Owns, Nobody}
+use Rattle.table.specs.declared.configs.Privileged.{Privileged}
 use Rattle.table.specs.declared.Table.{Table}
 use Rattle.table.specs.Configuration.{inputs_of, privilege_of, owner_of}
 use Rattle.table.specs.Sound.{on_card}
 use Rattle.table.proofs.Configured.{inputs_range}
-use Rattle.calls.specs.declared.Verdict.TheVariants.{Passed}
 use Rattle.calls.specs.Levels.{process_of, with_latch, moving}
 use Rattle.calls.specs.Verdicts.{check, by_caller}
 use Rattle.calls.proofs.Keeping.{Steady, Keeps, keeps_obeyed, steady_mask, steady_latch, passed_caller, passed_check}
@@ -127,10 +127,10 @@ module _ (t : Table) (caller : ℕ) where
       steady_process t caller _ steady (tame_moved (process_of t caller) Ready WaitingForEvent WaitForEvent ready refl t.config.places refl refl)
 
   -- whether it owns inputs or not
-  awaiting_keeps : (owned : Privilege) → Steady t → is_of (process_of t caller).state Ready ≡ true → Keeps (awaiting_by owned t caller)
+  awaiting_keeps : (owned : Option Privileged) → Steady t → is_of (process_of t caller).state Ready ≡ true → Keeps (awaiting_by owned t caller)
   unfolding awaiting_of Keeps
-  awaiting_keeps (Owns place) steady ready = by_pick Keeps (eqb (count_of (came_of t place)) 0) _ _ (waiting_steady steady ready) steady
-  awaiting_keeps Nobody steady ready = steady
+  awaiting_keeps (Some place) steady ready = by_pick Keeps (eqb (count_of (came_of t place)) 0) _ _ (waiting_steady steady ready) steady
+  awaiting_keeps None steady ready = steady
 
   -- AWAITINTERRUPT keeps it steady
   pub await_interrupt_keeps : Steady t → Keeps (await_interrupt_of t caller)
@@ -148,14 +148,14 @@ woken_steady t level steady waits =
     steady_process t level _ steady (tame_moved (process_of t level) WaitingForEvent Ready Event waits refl t.config.places refl refl)
 
 -- whether it has an owner or not
-opened_keeps : (owner : Privilege) (t : Table) (input : ℕ) → Steady t → Keeps (opened_by owner t input)
+opened_keeps : (owner : Option Privileged) (t : Table) (input : ℕ) → Steady t → Keeps (opened_by owner t input)
 unfolding opened_of Keeps
-opened_keeps (Owns place) t input steady =
+opened_keeps (Some place) t input steady =
     by_test (open_of t input place)
     (λ opens. rw opens
     (woken_steady t place.level steady (both_true (is_of (process_of t place.level).state WaitingForEvent) (has_of t.mask input) opens).0))
     (λ closed. rw closed steady)
-opened_keeps Nobody t input steady = steady
+opened_keeps None t input steady = steady
 
 -- an event keeps the table steady: it latches an input of the card, and may wake its owner
 pub event_keeps : (t : Table) (input : ℕ) → Steady t → Keeps (event_of t input)
@@ -163,6 +163,6 @@ unfolding event_of latched_of
 event_keeps t input steady =
     keeps_obeyed _ t _ steady
     (λ passed.
-    let on = (passed_check Passed (is_input t input) IllegalInput [] passed).1 in
+    let on = (passed_check (Ok tt) (is_input t input) IllegalInput [] passed).1 in
     let card = insert_on_card t.config t.latch input steady.parts.latch (ltb-true input (inputs_of t.config) on) in
     opened_keeps (owner_of t.config input) (with_latch t (insert_of t.latch input)) input (steady_latch t (insert_of t.latch input) steady card))

@@ -1,3 +1,4 @@
 pub mod Fitting
 pub mod Deciding
 pub mod Keeping
+pub mod Ruling

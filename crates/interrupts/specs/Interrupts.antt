@@ -1,10 +1,9 @@
 -- Document 01, "Inputs".
-use Rattle.std.specs.Prelude.{Bool, false, ◌&&◌, [], ◌∷◌, ℕ, eqb, leb, ltb}
+use Rattle.std.specs.Prelude.{Bool, false, ◌&&◌, [], ◌∷◌, ℕ, eqb, leb, ltb, Option, Some, None}
 use Rattle.common.specs.Choice.{pick}
 use Rattle.inputs.specs.declared.InputSet.{InputSet}
 use Rattle.inputs.specs.InputSet.{has_of, insert_of, remove_of, both_of, run_of, count_of}
 use Rattle.process.specs.declared.Process.{Process}
-use Rattle.process.specs.Messages.{zeros}
 use Rattle.process.specs.Process.{moved_of}
 use Rattle.process.specs.States.{is_of}
 use Rattle.process.specs.declared.states.State.TheVariants.{WaitingForEvent}
@@ -12,8 +11,6 @@ use Rattle.process.specs.declared.states.Cause.TheVariants.{WaitForEvent, Event}
 use Rattle.table.specs.declared.answers.Answer.TheVariants.{Ok, CommandPrivileged, IllegalInput, Suspended}
 use Rattle.table.specs.declared.configs.Config.{Config}
 use Rattle.table.specs.declared.configs.Privileged.{Privileged}
-use Rattle.table.specs.declared.configs.Privilege.{Privilege}
-use Rattle.table.specs.declared.configs.Privilege.TheVariants.{Owns, Nobody}
 use Rattle.table.specs.declared.wakes.Wake.{Wake}
 use Rattle.table.specs.declared.wakes.Woken.TheVariants.{ByEvent}
 use Rattle.table.specs.declared.Table.{Table}
@@ -23,8 +20,7 @@ use Rattle.calls.specs.declared.Decided.{Decided}
 use Rattle.calls.specs.Decisions.{decided, decided_by}
 use Rattle.calls.specs.Effects.{Effect, nothing, inputs, refuse, done, suspended, carrying, waking}
 use Rattle.calls.specs.Levels.{process_of, with_mask, with_latch, moving}
-use Rattle.calls.specs.declared.Verdict.{Verdict}
-use Rattle.calls.specs.Verdicts.{check, after, by_caller, checked, called}
+use Rattle.calls.specs.Verdicts.{Checked, check, after, by_caller, checked, called}
 use Rattle.interrupts.specs.declared.AfterEvent.{AfterEvent}
 
 -- "11 ILLIOADDRESS: no such input"
@@ -32,9 +28,9 @@ abbrev pub is_input : Table → ℕ → Bool
 is_input t input = ltb input (inputs_of t.config)
 
 -- the input is in the run of a privileged place
-abbrev pub in_run : Privilege → ℕ → Bool
-in_run (Owns place) input = leb place.first input && leb input place.last
-in_run Nobody input = false
+abbrev pub in_run : Option Privileged → ℕ → Bool
+in_run (Some place) input = leb place.first input && leb input place.last
+in_run None input = false
 
 -- "the caller owns the input"
 abbrev pub owns_input : Config → ℕ → ℕ → Bool
@@ -79,9 +75,9 @@ awaiting_of t caller place =
     (carrying Ok (inputs (came_of t place)) t)
 
 -- "9 unless privileged"
-abbrev pub awaiting_by : Privilege → Table → ℕ → Effect
-awaiting_by (Owns place) t caller = awaiting_of t caller place
-awaiting_by Nobody t caller = refuse t CommandPrivileged
+abbrev pub awaiting_by : Option Privileged → Table → ℕ → Effect
+awaiting_by (Some place) t caller = awaiting_of t caller place
+awaiting_by None t caller = refuse t CommandPrivileged
 
 -- "AWAITINTERRUPT: 9 unless privileged; .."
 unfoldable pub await_interrupt_of : Table → ℕ → Effect
@@ -93,7 +89,7 @@ open_of t input place = is_of (process_of t place.level).state WaitingForEvent &
 
 -- the owner's wake: "0 1 n", the one input
 abbrev pub event_wake : ℕ → ℕ → Wake
-event_wake level input = record { level = level; woken = ByEvent; message = zeros; inputs = run_of input input }
+event_wake level input = record { level = level; woken = ByEvent (run_of input input) }
 
 -- "An event on an open input wakes the owner with it." The latch stays: "Latches stay until reset."
 unfoldable pub opened_of : Table → ℕ → Privileged → Effect
@@ -102,9 +98,9 @@ opened_of t input place =
     (waking Ok (event_wake place.level input ∷ []) (moving t place.level Event))
     (done t)
 
-abbrev pub opened_by : Privilege → Table → ℕ → Effect
-opened_by (Owns place) t input = opened_of t input place
-opened_by Nobody t input = done t
+abbrev pub opened_by : Option Privileged → Table → ℕ → Effect
+opened_by (Some place) t input = opened_of t input place
+opened_by None t input = done t
 
 -- "sets the input's latch"
 unfoldable pub latched_of : Table → ℕ → Effect
@@ -117,16 +113,20 @@ event_of t input = checked t (check (is_input t input) IllegalInput ∷ []) (lat
 -- ---- how the code comes to that: what a call or an event does is decided on the parts that it needs
 
 -- 10, 33, 11: the checks of every call that names an input, of a caller with this record
-abbrev pub input_verdict : Config → Process → ℕ → ℕ → Verdict
+abbrev pub input_verdict : Config → Process → ℕ → ℕ → Checked
 input_verdict c p caller input = after (by_caller c p caller) (check (ltb input (inputs_of c)) IllegalInput ∷ [])
 
 -- 10, 33, 11, 9: those of ENABLE
-abbrev pub enable_verdict : Config → Process → ℕ → ℕ → Verdict
+abbrev pub enable_verdict : Config → Process → ℕ → ℕ → Checked
 enable_verdict c p caller input =
     after (by_caller c p caller)
     (check (ltb input (inputs_of c)) IllegalInput
     ∷ check (owns_input c caller input) CommandPrivileged
     ∷ [])
+
+-- 0, with another mask and another latch
+abbrev pub left_in : Table → InputSet × InputSet → Effect
+left_in t left = done (with_latch (with_mask t left.0) left.1)
 
 -- AWAITINTERRUPT changes the caller's record alone
 
@@ -136,9 +136,9 @@ awaiting_for p mask latch place =
     (decided Suspended nothing (moved_of p WaitForEvent))
     (decided Ok (inputs (came_with mask latch place)) p)
 
-abbrev pub awaited_by : Privilege → Process → InputSet → InputSet → Decided
-awaited_by (Owns place) p mask latch = awaiting_for p mask latch place
-awaited_by Nobody p mask latch = decided CommandPrivileged nothing p
+abbrev pub awaited_by : Option Privileged → Process → InputSet → InputSet → Decided
+awaited_by (Some place) p mask latch = awaiting_for p mask latch place
+awaited_by None p mask latch = decided CommandPrivileged nothing p
 
 unfoldable pub awaited_of : Config → Process → InputSet → InputSet → ℕ → Decided
 awaited_of c p mask latch caller = decided_by (by_caller c p caller) p (awaited_by (privilege_of c caller) p mask latch)

@@ -5,10 +5,9 @@ use Rattle.process.specs.Process.{is_known}
 use Rattle.table.specs.declared.answers.Answer.TheVariants.{ReceiverUnknown}
 use Rattle.table.specs.declared.Table.{Table}
 use Rattle.table.specs.Configuration.{receiver_of}
-use Rattle.calls.specs.declared.Verdict.{Verdict}
 use Rattle.calls.specs.Levels.{process_of}
-use Rattle.calls.specs.Verdicts.{check, after, by_caller}
+use Rattle.calls.specs.Verdicts.{Checked, check, after, by_caller}
 
 -- 10, 33, 1
-abbrev pub named_verdict : Table → ℕ → ℕ → Verdict
+abbrev pub named_verdict : Table → ℕ → ℕ → Checked
 named_verdict t caller receiver = after (by_caller t.config (process_of t caller) caller) (check (is_known (receiver_of t.config receiver)) ReceiverUnknown ∷ [])

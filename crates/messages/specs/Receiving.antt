@@ -4,7 +4,6 @@ use Rattle.common.specs.Choice.{pick}
 use Rattle.common.specs.Fold.{fold_of}
 use Rattle.process.specs.declared.Process.{Process}
 use Rattle.process.specs.declared.Target.{Target}
-use Rattle.process.specs.declared.Target.TheVariants.{All}
 use Rattle.process.specs.declared.Taken.{Taken}
 use Rattle.process.specs.declared.states.Cause.TheVariants.{WaitForMessage}
 use Rattle.process.specs.Process.{moved_of, taken_of, is_known}
@@ -17,8 +16,7 @@ use Rattle.calls.specs.Decisions.{decided, decided_by}
 use Rattle.calls.specs.Effects.{Effect, nothing, message, done, suspended, carrying}
 use Rattle.calls.specs.Levels.{process_of, with_process, with_processes, moving}
 use Rattle.calls.specs.Outcomes.{told_as}
-use Rattle.calls.specs.Verdicts.{check, after, by_caller, called}
-use Rattle.messages.specs.declared.Clearing.{Clearing}
+use Rattle.calls.specs.Verdicts.{Checked, Check, check, after, by_caller, called}
 use Rattle.messages.specs.Receivers.{receivers_of, cleared_at}
 
 -- "With each message handed over, .., one mark is told and cleared"
@@ -28,13 +26,13 @@ taken t caller x = carrying (told_as x.told) (message x.message) (with_process t
 unfoldable pub taking_of : Table → ℕ → Effect
 taking_of t caller = taken t caller (taken_of (process_of t caller))
 
+-- of RECEIVE, on the caller's record: 4
+abbrev pub receive_checks : Process → List Check
+receive_checks p = check (not (eqb p.buffer.count 0)) BufferEmpty ∷ []
+
 -- "RECEIVE: oldest message, or 4." "Number 4 clears no mark."
 unfoldable pub receive_of : Table → ℕ → Effect
-receive_of t caller =
-    called t caller
-    (check (not (eqb (process_of t caller).buffer.count 0)) BufferEmpty
-    ∷ [])
-    (taking_of t caller)
+receive_of t caller = called t caller (receive_checks (process_of t caller)) (taking_of t caller)
 
 -- "AWAITMESSAGE: oldest message, or 32 and WM."
 unfoldable pub await_message_of : Table → ℕ → Effect
@@ -56,26 +54,19 @@ clear_message_of t caller receiver =
 
 -- ---- how the code comes to that
 
+-- 10, 33, 1: the checks of SEND and CLEARMESSAGE, which name receivers
+abbrev pub named_checked : Config → Process → ℕ → Target → Checked
+named_checked c p caller target = after (by_caller c p caller) (check (is_known target) ReceiverUnknown ∷ [])
+
 -- RECEIVE and AWAITMESSAGE change the caller's record alone: what they come to is decided on it
 
 abbrev pub took_of : Process → Decided
 took_of p = decided (told_as (taken_of p).told) (message (taken_of p).message) (taken_of p).process
 
 unfoldable pub received_of : Config → Process → ℕ → Decided
-received_of c p caller = decided_by (after (by_caller c p caller) (check (not (eqb p.buffer.count 0)) BufferEmpty ∷ [])) p (took_of p)
+received_of c p caller = decided_by (after (by_caller c p caller) (receive_checks p)) p (took_of p)
 
 unfoldable pub awaited_of : Config → Process → ℕ → Decided
 awaited_of c p caller =
     decided_by (by_caller c p caller) p
     (pick (eqb p.buffer.count 0) (decided Suspended nothing (moved_of p WaitForMessage)) (took_of p))
-
--- the buffers that have been emptied, in the code's array
-
-unfoldable pub clearing_at : Clearing → ℕ → Clearing
-clearing_at clearing level = record { processes = cleared_at clearing.processes level }
-
-unfoldable pub clearing_for : Config → Target → List Process → Clearing
-clearing_for c target processes = record { processes = cleared_for c target processes }
-
-abbrev pub all_cleared : Config → List Process → Clearing
-all_cleared c processes = clearing_for c All processes

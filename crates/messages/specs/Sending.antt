@@ -7,7 +7,7 @@ use Rattle.process.specs.declared.Condition.TheVariants.{Always, Waiting}
 use Rattle.process.specs.declared.Fate.{Fate}
 use Rattle.process.specs.declared.Process.{Process}
 use Rattle.process.specs.declared.Target.{Target}
-use Rattle.process.specs.declared.Target.TheVariants.{All, Level, Unknown}
+use Rattle.process.specs.declared.Target.TheVariants.{All}
 use Rattle.process.specs.Process.{is_known}
 use Rattle.table.specs.declared.answers.Answer.{Answer}
 use Rattle.table.specs.declared.answers.Answer.TheVariants.{Ok, ReceiverUnknown, ReceiverNotReady, ReceiverBufferOverflow}
@@ -58,9 +58,3 @@ send_of t caller receiver condition m =
 abbrev pub sent_answer : Condition → Fate → Answer
 sent_answer Waiting fate = pick (is_handed fate) Ok ReceiverNotReady
 sent_answer Always fate = pick (is_full fate) ReceiverBufferOverflow Ok
-
--- the level that is named alone; else 12, where there is none
-abbrev pub one_level : Target → ℕ
-one_level All = 12
-one_level (Level level) = level
-one_level Unknown = 12

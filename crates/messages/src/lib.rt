@@ -2,19 +2,19 @@
 #![tactic(auto)]
 
 ghost use Rattle.std.specs.Prelude.{◌≡◌, ◌<◌};
-ghost use Rattle.common.specs.Choice.{pick};
 ghost use Rattle.calls.specs.Effects.{outcome_of};
+ghost use Rattle.calls.specs.Verdicts.{after, by_caller};
 ghost use Rattle.posting.specs.Posting.{posting_of};
-ghost use Rattle.process.specs.declared.Target.TheVariants.{Level};
-ghost use Rattle.messages.specs.Sending.{send_posted, broadcast_posted, sent_of, send_of, sent_answer, one_level};
-ghost use Rattle.messages.specs.Receiving.{took_of, received_of, receive_of, awaited_of, await_message_of, clearing_at, all_cleared, clearing_for, clear_message_of};
+ghost use Rattle.process.specs.declared.Target.TheVariants.{All, Level};
+ghost use Rattle.messages.specs.Sending.{send_posted, broadcast_posted, sent_of, send_of, sent_answer};
+ghost use Rattle.messages.specs.Receiving.{named_checked, receive_checks, took_of, received_of, receive_of, awaited_of, await_message_of, cleared_for, clear_message_of};
 
-use calls::{Decided, Verdict};
+use calls::{Decided, check};
 use inputs::InputSet;
 use posting::{Origin, Posting, delivered};
 use process::buffers::Message;
 use process::states::Cause;
-use process::{Condition, Fate, Process, Target};
+use process::{Condition, Delivery, Fate, Process, Taken, Target};
 use table::answers::Answer;
 use table::configs::Config;
 use table::wakes::Wakes;
@@ -31,19 +31,10 @@ fn broadcast(
 {
     let places = config.places as usize;
     let mut posting = Posting::begin(processes);
-    let mut level: u8 = 0;
-    while level < 12 {
-        if config.has_level(level as u16) {
-            let process = posting.processes[level as usize];
-            let delivery = delivered(Origin::Sent, places, condition, message, process);
-            let fate = delivery.fate;
-            let served = delivery.process;
-            let told = posting.wakes;
-            posting.processes[level as usize] = served;
-            posting.wakes = posting::pushed(told, level, fate, message);
-            posting.full = posting.full | posting::is_full(fate);
+    for receiver in 0..12 {
+        if config.has_level(receiver as u16) {
+            posting.post(Origin::Sent, places, receiver, condition, message);
         }
-        level += 1;
     }
     posting
 }
@@ -62,7 +53,9 @@ fn posted(
         Target::All => broadcast(config, processes, condition, message),
         Target::Level(level) => {
             let places = config.places as usize;
-            Posting::begin(processes).post(Origin::Sent, places, level, condition, message)
+            let mut posting = Posting::begin(processes);
+            posting.post(Origin::Sent, places, level, condition, message);
+            posting
         }
         Target::Unknown => Posting::begin(processes),
     }
@@ -72,28 +65,17 @@ fn posted(
 fn sent(table: Table, target: Target, condition: Condition, message: Message) -> Outcome
     ensures { result ≡ outcome_of (sent_of table target condition message) }
 {
-    let config = table.config;
-    let processes = table.processes;
-    let posting = posted(config, processes, target, condition, message);
-    let processes = posting.processes;
-    let wakes = posting.wakes;
-    let mut served = table;
-    served.processes = processes;
+    let Posting {
+        processes,
+        wakes,
+        full,
+    } = posted(table.config, table.processes, target, condition, message);
+    let served = Table { processes, ..table };
     match condition {
-        Condition::Waiting => {
-            if wakes.count == 0 {
-                table.refused(Answer::ReceiverNotReady)
-            } else {
-                calls::answered(served, Answer::Ok, wakes)
-            }
-        }
-        Condition::Always => {
-            if posting.full {
-                calls::answered(served, Answer::ReceiverBufferOverflow, wakes)
-            } else {
-                calls::answered(served, Answer::Ok, wakes)
-            }
-        }
+        Condition::Waiting if wakes.count == 0 => table.refused(Answer::ReceiverNotReady),
+        Condition::Waiting => calls::answered(served, Answer::Ok, wakes),
+        Condition::Always if full => calls::answered(served, Answer::ReceiverBufferOverflow, wakes),
+        Condition::Always => calls::answered(served, Answer::Ok, wakes),
     }
 }
 
@@ -102,50 +84,35 @@ fn sent_answer(condition: Condition, fate: Fate) -> Answer
     ensures { result ≡ sent_answer condition fate }
 {
     match condition {
-        Condition::Waiting => {
-            if posting::is_handed(fate) {
-                Answer::Ok
-            } else {
-                Answer::ReceiverNotReady
-            }
-        }
-        Condition::Always => {
-            if posting::is_full(fate) {
-                Answer::ReceiverBufferOverflow
-            } else {
-                Answer::Ok
-            }
-        }
+        Condition::Waiting if posting::is_handed(fate) => Answer::Ok,
+        Condition::Waiting => Answer::ReceiverNotReady,
+        Condition::Always if posting::is_full(fate) => Answer::ReceiverBufferOverflow,
+        Condition::Always => Answer::Ok,
     }
 }
 
 // SEND to one of the twelve levels, in place. Where nobody waited its record is put back as it was.
-fn sent_to(table: Table, level: u8, condition: Condition, message: Message) -> Outcome
+fn sent_to(mut table: Table, level: u8, condition: Condition, message: Message) -> Outcome
     requires { level < 12 }
     ensures { result ≡ outcome_of (sent_of table (Level level) condition message) }
 {
-    let mut after = table;
-    let config = after.config;
-    let places = config.places as usize;
-    let process = after.processes[level as usize];
-    let delivery = delivered(Origin::Sent, places, condition, message, process);
-    let fate = delivery.fate;
-    let served = delivery.process;
-    let answer = sent_answer(condition, fate);
+    let places = table.config.places as usize;
+    let process = table.processes[level as usize];
+    let Delivery {
+        fate,
+        process: served,
+    } = delivered(Origin::Sent, places, condition, message, process);
+    table.processes[level as usize] = served;
     let wakes = posting::pushed(Wakes::none(), level, fate, message);
-    after.processes[level as usize] = served;
-    calls::answered(after, answer, wakes)
+    calls::answered(table, sent_answer(condition, fate), wakes)
 }
 
-// The level that is named alone; else 12, where there is none.
-fn one_level(target: Target) -> u8
-    ensures { result ≡ one_level target }
+// The checks of a call that names receivers: the caller, with this record, may call, and there is such a receiver.
+fn named_checked(config: Config, process: Process, caller: u8, target: Target) -> Result<(), Answer>
+    ensures { result ≡ named_checked config process caller target }
 {
-    match target {
-        Target::All => 12,
-        Target::Level(level) => level,
-        Target::Unknown => 12,
-    }
+    calls::caller_checked(config, process, caller)?;
+    check(target.is_known(), Answer::ReceiverUnknown)
 }
 
 pub fn send(
@@ -161,20 +128,12 @@ pub fn send(
     let processes = table.processes;
     let process = calls::process_at(processes, caller as u16);
     let target = config.receiver(receiver);
-    let verdict = calls::caller_checked(config, process, caller).check(
-        target.is_known(),
-        Answer::ReceiverUnknown,
-    );
-    match verdict {
-        Verdict::Refused(answer) => table.refused(answer),
-        Verdict::Passed => {
-            let level = one_level(target);
-            if level < 12 {
-                sent_to(table, level, condition, message)
-            } else {
-                sent(table, target, condition, message)
-            }
-        }
+    match named_checked(config, process, caller, target) {
+        Err(answer) => table.refused(answer),
+        Ok(()) => match target {
+            Target::Level(level) if level < 12 => sent_to(table, level, condition, message),
+            _ => sent(table, target, condition, message),
+        },
     }
 }
 
@@ -182,59 +141,52 @@ pub fn send(
 fn took(process: Process) -> Decided
     ensures { result ≡ took_of process }
 {
-    let taken = process.taken();
-    let told = taken.told;
-    let message = taken.message;
-    let process = taken.process;
-    let answer = calls::told_as(told);
-    Decided {
-        answer,
-        shown: Shown::Message,
+    let Taken {
+        told,
         message,
-        inputs: InputSet::empty(),
+        process,
+    } = process.taken();
+    Decided {
+        answer: calls::told_as(told),
+        shown: Shown::Message(message),
         process,
     }
+}
+
+// The checks of RECEIVE, on the record of the caller.
+fn receive_checked(config: Config, process: Process, caller: u8) -> Result<(), Answer>
+    ensures { result ≡ after (by_caller config process caller) (receive_checks process) }
+{
+    calls::caller_checked(config, process, caller)?;
+    check(process.buffer.count != 0, Answer::BufferEmpty)
 }
 
 // RECEIVE of a level with this record.
 pub fn received(config: Config, process: Process, caller: u8) -> Decided
     ensures { result ≡ received_of config process caller }
 {
-    let buffer = process.buffer;
-    let verdict = calls::caller_checked(config, process, caller).check(
-        buffer.count != 0,
-        Answer::BufferEmpty,
-    );
-    match verdict {
-        Verdict::Refused(answer) => Decided::alone(answer, process),
-        Verdict::Passed => took(process),
+    match receive_checked(config, process, caller) {
+        Err(answer) => Decided::alone(answer, process),
+        Ok(()) => took(process),
     }
 }
 
 pub fn receive(table: Table, caller: u8) -> Outcome
     ensures { result ≡ outcome_of (receive_of table caller) }
 {
-    let mut after = table;
-    let config = after.config;
-    // A level above 11 is refused whatever record stands in for its own, and that one is put back as it was.
-    let at = common::least(caller as usize, 11);
-    let process = after.processes[at];
-    let decided = received(config, process, caller);
-    let process = decided.process;
-    after.processes[at] = process;
-    calls::told(after, decided)
+    calls::on_record(table, caller as u16, |config, process| {
+        received(config, process, caller)
+    })
 }
 
 // AWAITMESSAGE of a level with this record.
 pub fn awaited(config: Config, process: Process, caller: u8) -> Decided
     ensures { result ≡ awaited_of config process caller }
 {
-    let buffer = process.buffer;
-    let verdict = calls::caller_checked(config, process, caller);
-    match verdict {
-        Verdict::Refused(answer) => Decided::alone(answer, process),
-        Verdict::Passed => {
-            if buffer.count == 0 {
+    match calls::caller_checked(config, process, caller) {
+        Err(answer) => Decided::alone(answer, process),
+        Ok(()) => {
+            if process.buffer.count == 0 {
                 let process = process.moved(Cause::WaitForMessage);
                 Decided::alone(Answer::Suspended, process)
             } else {
@@ -247,59 +199,34 @@ pub fn awaited(config: Config, process: Process, caller: u8) -> Decided
 pub fn await_message(table: Table, caller: u8) -> Outcome
     ensures { result ≡ outcome_of (await_message_of table caller) }
 {
-    let mut after = table;
-    let config = after.config;
-    let at = common::least(caller as usize, 11);
-    let process = after.processes[at];
-    let decided = awaited(config, process, caller);
-    let process = decided.process;
-    after.processes[at] = process;
-    calls::told(after, decided)
+    calls::on_record(table, caller as u16, |config, process| {
+        awaited(config, process, caller)
+    })
 }
 
-// The processes, as far as their buffers have been emptied.
-#[derive(Drop)]
-struct Clearing {
-    processes: [Process; 12],
-}
-
-impl Clearing {
-    // One buffer more, where that is wanted.
-    fn at(self, wanted: bool, level: u8) -> Clearing
-        ensures { result ≡ pick wanted (clearing_at self level) self }
-    {
-        if wanted {
-            let processes = self.processes;
-            let process = calls::process_at(processes, level as u16).cleared();
-            let processes = calls::with_process(processes, level as u16, process);
-            Clearing { processes }
-        } else {
-            self
+// Every configured level's buffer is emptied.
+fn all_cleared(config: Config, mut processes: [Process; 12]) -> [Process; 12]
+    ensures { result ≡ cleared_for config All processes }
+{
+    for level in 0..12u8 {
+        if config.has_level(level as u16) {
+            processes[level as usize] = processes[level as usize].cleared();
         }
     }
-}
-
-fn all_cleared(config: Config, processes: [Process; 12]) -> Clearing
-    ensures { result ≡ all_cleared config processes }
-{
-    let mut clearing = Clearing { processes };
-    let mut level: u8 = 0;
-    while level < 12 {
-        let wanted = config.has_level(level as u16);
-        clearing = clearing.at(wanted, level);
-        level += 1;
-    }
-    clearing
+    processes
 }
 
 // The buffers of whoever is named are emptied.
-fn cleared(config: Config, processes: [Process; 12], target: Target) -> Clearing
-    ensures { result ≡ clearing_for config target processes }
+fn cleared(config: Config, processes: [Process; 12], target: Target) -> [Process; 12]
+    ensures { result ≡ cleared_for config target processes }
 {
     match target {
         Target::All => all_cleared(config, processes),
-        Target::Level(level) => Clearing { processes }.at(true, level),
-        Target::Unknown => Clearing { processes },
+        Target::Level(level) => {
+            let process = calls::process_at(processes, level as u16).cleared();
+            calls::with_process(processes, level as u16, process)
+        }
+        Target::Unknown => processes,
     }
 }
 
@@ -310,18 +237,11 @@ pub fn clear_message(table: Table, caller: u8, receiver: u16) -> Outcome
     let processes = table.processes;
     let process = calls::process_at(processes, caller as u16);
     let target = config.receiver(receiver);
-    let verdict = calls::caller_checked(config, process, caller).check(
-        target.is_known(),
-        Answer::ReceiverUnknown,
-    );
-    match verdict {
-        Verdict::Refused(answer) => table.refused(answer),
-        Verdict::Passed => {
-            let clearing = cleared(config, processes, target);
-            let processes = clearing.processes;
-            let mut changed = table;
-            changed.processes = processes;
-            calls::answered(changed, Answer::Ok, Wakes::none())
+    match named_checked(config, process, caller, target) {
+        Err(answer) => table.refused(answer),
+        Ok(()) => {
+            let processes = cleared(config, processes, target);
+            calls::answered(Table { processes, ..table }, Answer::Ok, Wakes::none())
         }
     }
 }

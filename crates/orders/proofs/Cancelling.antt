@@ -12,7 +12,7 @@ use Rattle.process.specs.declared.Target.TheVariants.{All, Level, Unknown}
 use Rattle.orders.specs.declared.Order.{Order}
 use Rattle.orders.specs.declared.Orders.{Orders}
 use Rattle.orders.specs.Orders.{standing_of}
-use Rattle.orders.specs.Cancel.{is_from, matches_of, how_many_of, removed_of, cancel_of}
+use Rattle.orders.specs.Cancel.{is_from, matches_of, how_many_of, removed_of, cancel_of, after_cancel}
 use Rattle.orders.specs.Timer.{stays_after}
 use Rattle.orders.proofs.Tables.{standing_without}
 
@@ -27,7 +27,7 @@ other_stays level receiver x other =
     by_test (eqb x.receiver receiver) (λ e. rw (e, not-true (eqb x.sender level) other)) (λ e. rw e)
 
 module _ (level : ℕ) (o : Orders) where
-  others_removed : (receiver : ℕ) → keep_of (from_other level) (standing_of (removed_of (Level level) receiver o).orders) ≡ keep_of (from_other level) (standing_of o)
+  others_removed : (receiver : ℕ) → keep_of (from_other level) (standing_of (after_cancel o (removed_of (Level level) receiver o))) ≡ keep_of (from_other level) (standing_of o)
   unfolding removed_of
   others_removed receiver =
       by_test (eqb o.count 0) (λ e. rw e)
@@ -38,7 +38,7 @@ module _ (level : ℕ) (o : Orders) where
       ∙ keep_keep (from_other level) (stays_after (Level level) receiver) (other_stays level receiver) (standing_of o)))))
 
   -- whatever a named sender cancels, everybody else's orders stand as they stood, in their order
-  pub others_stand : (receiver : Target) → keep_of (from_other level) (standing_of (cancel_of (Level level) receiver o).orders) ≡ keep_of (from_other level) (standing_of o)
+  pub others_stand : (receiver : Target) → keep_of (from_other level) (standing_of (after_cancel o (cancel_of (Level level) receiver o))) ≡ keep_of (from_other level) (standing_of o)
   unfolding cancel_of
   others_stand All = refl
   others_stand (Level receiver) = others_removed receiver

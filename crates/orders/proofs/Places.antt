@@ -9,9 +9,9 @@ use lib.Seq.{take-suc, take-suc-set, take-set-lt, drop-cons, drop-set-lt, length
 use Rattle.common.proofs.Packing.{length_packed}
 use Rattle.orders.specs.declared.Order.{Order}
 use Rattle.orders.specs.declared.Orders.{Orders}
-use Rattle.orders.specs.Orders.{no_order, standing_of, orders_of, push_of}
+use Rattle.orders.specs.Orders.{no_order, standing_of, orders_of}
 use Rattle.orders.specs.Advance.{without_at, without_place_of}
-use Rattle.orders.proofs.Standing.{push_room, push_orders, standing_orders}
+use Rattle.orders.proofs.Standing.{standing_orders}
 use Rattle.orders.proofs.Tables.{standing_most}
 
 -- those before it stay where they are
@@ -65,26 +65,18 @@ without_there zero (y ∷ l) x there = refl
 without_there (suc place) (y ∷ l) x there = ap (◌∷◌ y) (without_there place l x (λ here. there (ap suc here)))
 
 -- one turn of the loop that leaves it out
-module _ (place : ℕ) (array : List Order) (count at : ℕ) (d : Order) (before : at < count) (within : count ≤ length array) where
-  walked : take (at + 1) (take count array) ≡ take at (take count array) ++ (get_or array at d ∷ [])
-  walked =
-      rw add-one
-      (take-suc (take count array) at d (rw (length-take-le count array within) before)
-      ∙ ap (λ (x : Order). take at (take count array) ++ (x ∷ [])) (get_or-take count array at d before))
+module _ (place : ℕ) (l : List Order) (at : ℕ) (d : Order) (before : at < length l) where
+  walked : take (at + 1) l ≡ take at l ++ (get_or l at d ∷ [])
+  walked = rw add-one (take-suc l at d before)
 
-  at_end : length (take at (take count array)) ≡ at
-  at_end = length-take-le at (take count array) (rw (length-take-le count array within) (omega arith))
+  at_end : length (take at l) ≡ at
+  at_end = length-take-le at l (omega arith)
 
-  pub turn_here : at ≡ place → without_at place (take (at + 1) (take count array)) ≡ without_at place (take at (take count array))
+  pub turn_here : at ≡ place → without_at place (take (at + 1) l) ≡ without_at place (take at l)
   turn_here here = ap (without_at place) walked ∙ without_here place _ _ (at_end ∙ here)
 
-  pub turn_there : (o : Orders) → o ≡ orders_of (without_at place (take at (take count array))) → o.count < 64 → (at ≡ place → ⊥)
-      → record { places = set o.places o.count (get_or array at d); count = o.count + 1 } ≡ orders_of (without_at place (take (at + 1) (take count array)))
-  turn_there o so room there =
-      sym (push_room o (get_or array at d) room)
-      ∙ ap (λ (p : Orders). push_of p (get_or array at d)) so
-      ∙ push_orders _ (get_or array at d)
-      ∙ ap orders_of (sym (ap (without_at place) walked ∙ without_there place _ _ (λ here. there (sym at_end ∙ here))))
+  pub turn_there : (at ≡ place → ⊥) → without_at place (take (at + 1) l) ≡ without_at place (take at l) ++ (get_or l at d ∷ [])
+  turn_there there = ap (without_at place) walked ∙ without_there place _ _ (λ here. there (sym at_end ∙ here))
 
 -- ---- in the order table
 

@@ -5,12 +5,11 @@ use Prim.Native.Nat.{ℕ, ◌<◌, ◌≤◌}
 use native.Mathlib.Omega.{arith}
 use lib.Dec.{eqb, leb}
 use borrow.Author.Tests.{eqb-false, leb-false}
+use Rattle.std.specs.Prelude.{Option, Some, None}
 use Rattle.common.proofs.Cases.{by_test}
 use Rattle.day.specs.declared.TimeOfDay.{TimeOfDay}
 use Rattle.day.specs.TimeOfDay.{day}
 use Rattle.day.proofs.Until.{until_range}
-use Rattle.orders.specs.declared.First.{First}
-use Rattle.orders.specs.declared.First.TheVariants.{Relative, At}
 use Rattle.orders.specs.Moments.{interval_of, delay_of}
 
 -- a `to` of 0 or of a day or more is a day
@@ -34,7 +33,7 @@ interval_range to =
     (λ short. rw (some, short) (omega (arith, eqb-false to 0 some, leb-false day to short))))
 
 -- and so is the first delay
-pub delay_range : (clock : TimeOfDay) (to : ℕ) (first : First) → (0 < delay_of clock (interval_of to) first) × (delay_of clock (interval_of to) first ≤ day)
+pub delay_range : (clock : TimeOfDay) (to : ℕ) (first : Option TimeOfDay) → (0 < delay_of clock (interval_of to) first) × (delay_of clock (interval_of to) first ≤ day)
 unfolding delay_of
-delay_range clock to Relative = interval_range to
-delay_range clock to (At t) = until_range clock t
+delay_range clock to None = interval_range to
+delay_range clock to (Some t) = until_range clock t

@@ -1,5 +1,5 @@
 -- How lists of orders lie in the order table. Assumes nothing.
-use mathlib.Core.Path.{◌≡◌, ◌∙◌, ap}
+use mathlib.Core.Path.{◌≡◌, ◌∙◌, ap, sym}
 use mathlib.Core.List.{List, [], ◌∷◌, ◌++◌}
 use Prim.Native.Nat.{ℕ, ◌+◌, ◌<◌, ◌≤◌, min}
 use native.Mathlib.Omega.{arith}
@@ -11,7 +11,7 @@ use Rattle.orders.specs.declared.Order.{Order}
 use Rattle.orders.specs.declared.Orders.{Orders}
 use Rattle.orders.specs.Orders.{no_order, standing_of, orders_of, push_of}
 
-abbrev table_of : List Order → ℕ → Orders
+abbrev pub table_of : List Order → ℕ → Orders
 table_of places count = record { places = places; count = count }
 
 module _ (o : Orders) (x : Order) where
@@ -27,6 +27,10 @@ module _ (o : Orders) (x : Order) where
 pub push_orders : (l : List Order) (x : Order) → push_of (orders_of l) x ≡ orders_of (l ++ (x ∷ []))
 unfolding push_of orders_of
 push_orders l x = packed_behind 64 no_order table_of l x
+
+-- the same where the code puts it there
+pub put_behind : (o : Orders) (l : List Order) (x : Order) → o ≡ orders_of l → o.count < 64 → table_of (set o.places o.count x) (o.count + 1) ≡ orders_of (l ++ (x ∷ []))
+put_behind o l x so room = sym (push_room o x room) ∙ ap (λ (p : Orders). push_of p x) so ∙ push_orders l x
 
 -- a list that fits stands in its table
 pub standing_orders : (l : List Order) → length l ≤ 64 → standing_of (orders_of l) ≡ l

@@ -1,6 +1,5 @@
 -- What the operations on the order table do to the list of orders that stand: they are the steps of the timer law. Assumes nothing.
 use mathlib.Core.Path.{◌≡◌, ◌∙◌, refl, ap, sym}
-use mathlib.Core.Bool.{Bool, true, false}
 use mathlib.Core.List.{List, [], ◌∷◌, ◌++◌}
 use Prim.Native.Nat.{ℕ, suc, ◌+◌, ◌<◌, ◌≤◌, min}
 use native.Mathlib.Omega.{arith}
@@ -8,17 +7,16 @@ use lib.Dec.{eqb}
 use lib.ListN.{length, take, set, length-append, length-take}
 use lib.Seq.{take-suc-set}
 use borrow.Author.Tests.{eqb-true, eqb-false, lt-ltb, le-ltb, eq-eqb, ne_eqb}
-use Rattle.common.specs.Choice.{pick}
+use Rattle.std.specs.Prelude.{Option, Some, None}
 use Rattle.common.specs.Keep.{keep_of}
 use Rattle.common.proofs.Cases.{by_test}
 use Rattle.common.proofs.Keep.{length_keep}
 use Rattle.day.specs.declared.TimeOfDay.{TimeOfDay}
 use Rattle.process.specs.declared.Target.{Target}
 use Rattle.orders.specs.declared.Order.{Order}
-use Rattle.orders.specs.declared.Onward.{Onward}
 use Rattle.orders.specs.declared.Orders.{Orders}
 use Rattle.orders.specs.Orders.{standing_of, orders_of, push_of, accept_of}
-use Rattle.orders.specs.Advance.{due_at, due_of, due_count_of, onward_of, lefts_of, advancing, advance_of}
+use Rattle.orders.specs.Advance.{due_at, due_of, due_count_of, onward_of, left_of, lefts_of, advancing, advance_of}
 use Rattle.orders.specs.Cancel.{without_of}
 use Rattle.orders.specs.Timer.{stays_after}
 use Rattle.orders.proofs.Standing.{push_room, standing_orders}
@@ -28,14 +26,18 @@ pub standing_most : (o : Orders) → length (standing_of o) ≤ 64
 unfolding standing_of
 standing_most o = simp length-take (omega arith)
 
-length_left : (b : Bool) (x : Order) → length (pick b (x ∷ []) []) ≤ 1
-length_left true x = omega arith
-length_left false x = omega arith
+-- so in a walk that puts some of them into another table, a place is left for the order of a turn
+pub room : (o : Orders) (items : List Order) (count at : ℕ) → items ≡ standing_of o → count ≤ at → at < length items → count < 64
+room o items count at same few within = omega (arith, standing_most o, ap length same)
 
-length_lefts : (onward : Order → Onward) (l : List Order) → length (lefts_of onward l) ≤ length l
+length_left : (left : Option Order) → length (left_of left) ≤ 1
+length_left None = omega arith
+length_left (Some x) = omega arith
+
+length_lefts : (onward : Order → Option Order) (l : List Order) → length (lefts_of onward l) ≤ length l
 unfolding lefts_of
 length_lefts onward [] = omega arith
-length_lefts onward (x ∷ l) = rw length-append (omega (arith, length_left (onward x).stays (onward x).order, length_lefts onward l))
+length_lefts onward (x ∷ l) = rw length-append (omega (arith, length_left (onward x), length_lefts onward l))
 
 -- a moment at which none is due changes no order
 pub undue_same : (now : TimeOfDay) (l : List Order) → length (due_of now l) ≡ 0 → advancing now l ≡ l
@@ -87,11 +89,11 @@ unfolding without_of
 standing_without sender receiver o = standing_orders _ (omega (arith, length_keep (stays_after sender receiver) (standing_of o), standing_most o))
 
 module _ (o : Orders) (places : ℕ) (x : Order) where
-  pub accept_room : o.count < min places 64 → accept_of o places x ≡ record { accepted = true; orders = push_of o x }
+  pub accept_room : o.count < min places 64 → accept_of o places x ≡ Some (push_of o x)
   unfolding accept_of
   accept_room room = rw (lt-ltb o.count (min places 64) room)
 
-  pub accept_full : min places 64 ≤ o.count → accept_of o places x ≡ record { accepted = false; orders = o }
+  pub accept_full : min places 64 ≤ o.count → accept_of o places x ≡ None
   unfolding accept_of
   accept_full full = rw (le-ltb o.count (min places 64) full)
 

@@ -9,13 +9,13 @@ use native.Mathlib.Numerals.{one-add}
 use lib.ListN.{length, get_or, take}
 use lib.Seq.{get_or_at, take_at}
 use borrow.Author.Tests.{eq-eqb, ne_eqb}
+use Rattle.std.specs.Prelude.{Option, Some, None}
 use Rattle.common.specs.Keep.{keep_of}
 use Rattle.common.proofs.Keep.{keep_append}
 use Rattle.day.specs.declared.TimeOfDay.{TimeOfDay}
 use Rattle.day.specs.TimeOfDay.{day, forward_of}
 use Rattle.day.proofs.Forward.{forward_forward}
 use Rattle.orders.specs.declared.Order.{Order}
-use Rattle.orders.specs.declared.Onward.{Onward}
 use Rattle.orders.specs.Orders.{no_order}
 use Rattle.orders.specs.Advance.{due_at, onward_of, left_of, lefts_of, advancing}
 use Rattle.orders.specs.Cancel.{matches_of, is_from}
@@ -24,7 +24,7 @@ use Rattle.process.specs.declared.Target.TheVariants.{All, Level, Unknown}
 use Rattle.orders.specs.Timer.{Timed, Step, ticks, accepts, cancels, soon, stays_after, step_of, after_of, ticks_of, Place, place, gone, order_at, place_after, followed, Spared, CarriedOut, Gone, KeepsTime, aged_of}
 use Rattle.orders.proofs.Life.{Life, standing, over, tick_life, lives, DueNext, Over, due_fires, fires_due, over_finished, finished_over}
 
-lefts_append : (onward : Order → Onward) (l m : List Order) → lefts_of onward (l ++ m) ≡ lefts_of onward l ++ lefts_of onward m
+lefts_append : (onward : Order → Option Order) (l m : List Order) → lefts_of onward (l ++ m) ≡ lefts_of onward l ++ lefts_of onward m
 unfolding lefts_of
 lefts_append onward [] m = refl
 lefts_append onward (x ∷ l) m = ap (◌++◌ (left_of (onward x))) (lefts_append onward l m) ∙ sym (append_assoc (left_of (onward x)) _ _)
@@ -44,8 +44,8 @@ due_later : (clock : TimeOfDay) (x : Order) (r m : ℕ) → suc (suc r) ≤ day 
 unfolding forward_of
 due_later clock x r m within = ne_eqb ((clock.milliseconds + suc (suc r)) % day) ((clock.milliseconds + 1) % day) (omega arith)
 
-abbrev stayed : Order → Onward
-stayed x = record { stays = true; order = x }
+abbrev stayed : Order → Option Order
+stayed x = Some x
 
 module _ (clock : TimeOfDay) (x : Order) where
   -- not due: it counts down by this tick
@@ -61,7 +61,7 @@ module _ (clock : TimeOfDay) (x : Order) where
   onward_endless e every = rw (due_now_lem clock x 0) (ap (λ by. stayed (aged_of x (forward_of (forward_of clock 1) by) 0)) every)
 
   -- due for the last time: it leaves
-  onward_last : (onward_of (forward_of clock 1) (next_of clock x 0 1)).stays ≡ false
+  onward_last : onward_of (forward_of clock 1) (next_of clock x 0 1) ≡ None
   unfolding onward_of
   onward_last = rw (due_now_lem clock x 1)
 
@@ -117,7 +117,7 @@ module _ (t : Timed) (i : ℕ) (x : Order) (r m : ℕ) (st : StandsAt t i x r m)
         within = within;
       })
 
-  tick_off : (onward_of (soon t) (next_of t.clock x r m)).stays ≡ false → Tracks (step_of ticks t) (place_after ticks t (place i)) x over
+  tick_off : onward_of (soon t) (next_of t.clock x r m) ≡ None → Tracks (step_of ticks t) (place_after ticks t (place i)) x over
   tick_off leaves = rw (order_here, leaves) tt
 
   -- an order that is accepted later stands behind it

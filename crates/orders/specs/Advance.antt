@@ -1,12 +1,11 @@
 -- Document 01, "Timer orders": which orders a moment carries out, and what becomes of them.
-use Rattle.std.specs.Prelude.{Bool, true, false, List, [], ◌∷◌, ◌++◌, ℕ, zero, suc, ◌-◌, min, eqb, length}
+use Rattle.std.specs.Prelude.{Bool, List, [], ◌∷◌, ◌++◌, ℕ, zero, suc, ◌-◌, min, eqb, length, Option, Some, None}
 use Rattle.common.specs.Choice.{pick}
 use Rattle.common.specs.Keep.{keep_of}
 use Rattle.day.specs.declared.TimeOfDay.{TimeOfDay}
 use Rattle.day.specs.TimeOfDay.{day, forward_of, until_of}
 use Rattle.orders.specs.declared.Order.{Order}
 use Rattle.orders.specs.declared.Orders.{Orders}
-use Rattle.orders.specs.declared.Onward.{Onward}
 use Rattle.orders.specs.Orders.{standing_of, orders_of}
 
 -- "due at the new time"
@@ -33,18 +32,16 @@ again_of x = record {
 }
 
 -- "at 0 the order leaves"
-unfoldable pub onward_of : TimeOfDay → Order → Onward
-onward_of now x =
-    pick (due_at now x)
-    (pick (eqb x.left 1) (record { stays = false; order = x }) (record { stays = true; order = again_of x }))
-    (record { stays = true; order = x })
+unfoldable pub onward_of : TimeOfDay → Order → Option Order
+onward_of now x = pick (due_at now x) (pick (eqb x.left 1) None (Some (again_of x))) (Some x)
 
 -- what is left of an order after a moment: itself, or what it is next, or nothing
-abbrev pub left_of : Onward → List Order
-left_of onward = pick onward.stays (onward.order ∷ []) []
+abbrev pub left_of : Option Order → List Order
+left_of None = []
+left_of (Some x) = x ∷ []
 
 -- each order by itself, "in order of acceptance, also where a freed place was used again"
-unfoldable pub lefts_of : (Order → Onward) → List Order → List Order
+unfoldable pub lefts_of : (Order → Option Order) → List Order → List Order
 lefts_of onward [] = []
 lefts_of onward (x ∷ l) = left_of (onward x) ++ lefts_of onward l
 

@@ -1,5 +1,5 @@
 -- Document 01, "Timer orders": the order table, in order of acceptance.
-use Rattle.std.specs.Prelude.{Bool, true, false, List, [], ℕ, ◌+◌, min, ltb, length, take, set}
+use Rattle.std.specs.Prelude.{List, [], ℕ, ◌+◌, min, ltb, length, take, set, Option, Some, None}
 use Rattle.common.specs.Choice.{pick}
 use Rattle.common.specs.Packing.{packed_of}
 use Rattle.day.specs.TimeOfDay.{at}
@@ -7,7 +7,6 @@ use Rattle.process.specs.Messages.{zeros}
 use Rattle.process.specs.declared.Condition.TheVariants.{Always}
 use Rattle.orders.specs.declared.Order.{Order}
 use Rattle.orders.specs.declared.Orders.{Orders}
-use Rattle.orders.specs.declared.Accept.{Accept}
 
 -- what lies in a free place
 abbrev pub no_order : Order
@@ -28,9 +27,6 @@ none_of = orders_of []
 unfoldable pub push_of : Orders → Order → Orders
 push_of o x = pick (ltb o.count 64) (record { places = set o.places o.count x; count = o.count + 1 }) o
 
-abbrev pub push_if_of : Orders → Bool → Order → Orders
-push_if_of o stays x = pick stays (push_of o x) o
-
 -- "13 TASKLISTOFL: all A order places taken"; A is at most 64
-unfoldable pub accept_of : Orders → ℕ → Order → Accept
-accept_of o places x = pick (ltb o.count (min places 64)) (record { accepted = true; orders = push_of o x }) (record { accepted = false; orders = o })
+unfoldable pub accept_of : Orders → ℕ → Order → Option Orders
+accept_of o places x = pick (ltb o.count (min places 64)) (Some (push_of o x)) None

@@ -3,6 +3,7 @@
 -- sequence of ticks, acceptances of other orders, and cancels that do not match it. The order is followed by its place, so that it is never
 -- taken for another one with the same receiver, moment and message.
 use Rattle.std.specs.Prelude.{◌≡◌, Bool, true, not, List, [], ◌∷◌, ◌++◌, ◌⊎◌, ℕ, suc, ◌+◌, ◌-◌, ◌*◌, ◌<◌, ◌≤◌, length, get_or, take}
+use Rattle.std.specs.Option.{is_some}
 use Rattle.common.specs.Choice.{pick}
 use Rattle.common.specs.Keep.{keep_of}
 use Rattle.day.specs.declared.TimeOfDay.{TimeOfDay}
@@ -61,7 +62,7 @@ order_at t i = get_or t.orders i no_order
 
 -- a place after a step: as many places down as orders before it have left
 abbrev pub place_after : Step → Timed → Place → Place
-place_after ticks t (place i) = pick (onward_of (soon t) (order_at t i)).stays (place (length (advancing (soon t) (take i t.orders)))) gone
+place_after ticks t (place i) = pick (is_some (onward_of (soon t) (order_at t i))) (place (length (advancing (soon t) (take i t.orders)))) gone
 place_after (accepts x) t (place i) = place i
 place_after (cancels sender receiver) t (place i) =
     pick (stays_after sender receiver (order_at t i)) (place (length (keep_of (stays_after sender receiver) (take i t.orders)))) gone

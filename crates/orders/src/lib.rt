@@ -1,11 +1,11 @@
 // Timer orders: the moments at which a message is to be delivered, in order of acceptance.
 #![tactic(auto)]
 
-ghost use Rattle.std.specs.Prelude.{◌≡◌, ◌-◌};
+ghost use Rattle.std.specs.Prelude.{◌≡◌};
 ghost use Rattle.orders.specs.Moments.{interval_of, delay_of};
-ghost use Rattle.orders.specs.Orders.{none_of, push_of, push_if_of, accept_of};
+ghost use Rattle.orders.specs.Orders.{standing_of, none_of, push_of, accept_of};
 ghost use Rattle.orders.specs.Advance.{due_at, again_of, onward_of, next_due_of, without_place_of};
-ghost use Rattle.orders.specs.Cancel.{cancelled_number, is_from, matches_of, how_many_of, without_of, removed_of, to_receiver, cancel_of};
+ghost use Rattle.orders.specs.Cancel.{cancelled_number, refused_number, is_from, matches_of, how_many_of, without_of, removed_of, to_receiver, cancel_of};
 
 use day::TimeOfDay;
 use process::buffers::Message;
@@ -36,21 +36,9 @@ pub struct Orders {
     pub count: usize,
 }
 
-// When an order is first carried out: one interval from now, or at a time of day.
+// Why a cancel is refused: no order leaves.
 #[derive(Clone, Copy)]
-pub enum First {
-    Relative,
-    At(TimeOfDay),
-}
-
-#[derive(Drop)]
-pub struct Accept {
-    pub accepted: bool,
-    pub orders: Orders,
-}
-
-#[derive(Clone, Copy)]
-pub enum Cancelled {
+pub enum NotCancelled {
     // The sender is neither all nor a level.
     BadSender,
     // The receiver is no level that there is.
@@ -61,39 +49,35 @@ pub enum Cancelled {
     NotFound,
     // None of those for this receiver is the sender's.
     NotTheirs,
-    Done,
 }
 
-#[derive(Drop)]
-pub struct Cancel {
-    pub cancelled: Cancelled,
-    pub orders: Orders,
-}
-
-// An order after a moment: whether it still stands, and as what.
-#[derive(Clone, Copy)]
-pub struct Onward {
-    pub stays: bool,
-    pub order: Order,
-}
-
-impl Cancelled {
-    // The answer number of CANCELSCHEDULE.
+impl NotCancelled {
+    // The answer number of a CANCELSCHEDULE that is refused.
     pub fn number(self) -> u8
-        ensures { result ≡ cancelled_number self }
+        ensures { result ≡ refused_number self }
     {
         match self {
-            Cancelled::BadSender => 6,
-            Cancelled::UnknownReceiver => 1,
-            Cancelled::NoOrder => 7,
-            Cancelled::NotFound => 8,
-            Cancelled::NotTheirs => 6,
-            Cancelled::Done => 0,
+            NotCancelled::BadSender => 6,
+            NotCancelled::UnknownReceiver => 1,
+            NotCancelled::NoOrder => 7,
+            NotCancelled::NotFound => 8,
+            NotCancelled::NotTheirs => 6,
         }
     }
 }
 
+// The answer number of CANCELSCHEDULE.
+pub fn cancelled_number(cancelled: &Result<Orders, NotCancelled>) -> u8
+    ensures { result ≡ cancelled_number cancelled.now }
+{
+    match cancelled {
+        Ok(_) => 0,
+        Err(why) => why.number(),
+    }
+}
+
 // SCHEDULE's `to`, where it is not negative, as an interval: 0 and a day or more are a day.
+#[tactic(auto, unfolding(crate::specs::Moments::interval_of))]
 pub fn interval(to: u32) -> u32
     ensures { result ≡ interval_of to }
 {
@@ -104,21 +88,15 @@ pub fn interval(to: u32) -> u32
     }
 }
 
-// How many ticks until an order is first carried out.
-pub fn first_delay(clock: TimeOfDay, every: u32, first: First) -> u32
+// How many ticks until an order is first carried out: at a time of day, or else one interval from now.
+#[tactic(auto, unfolding(crate::specs::Moments::delay_of))]
+pub fn first_delay(clock: TimeOfDay, every: u32, first: Option<TimeOfDay>) -> u32
     ensures { result ≡ delay_of clock every first }
 {
     match first {
-        First::Relative => every,
-        First::At(moment) => clock.until(moment),
+        Some(moment) => clock.until(moment),
+        None => every,
     }
-}
-
-// One firing less; without end stays without end.
-fn fewer(left: u16) -> u16
-    ensures { result ≡ left - 1 }
-{
-    if left == 0 { 0 } else { left - 1 }
 }
 
 impl Order {
@@ -134,6 +112,7 @@ impl Order {
     };
 
     // It is the named sender's own, or anybody's will do.
+    #[tactic(auto, unfolding(crate::specs::Cancel::is_from))]
     fn is_from(self, sender: Target) -> bool
         ensures { result ≡ is_from sender self }
     {
@@ -145,49 +124,42 @@ impl Order {
     }
 
     // It is for the receiver, and from the sender.
+    #[tactic(auto, unfolding(crate::specs::Cancel::matches_of))]
     pub fn matches(self, sender: Target, receiver: u8) -> bool
         ensures { result ≡ matches_of sender receiver self }
     {
         (self.receiver == receiver) & self.is_from(sender)
     }
 
-    // As it stands once it was carried out and not for the last time.
+    // As it stands once it was carried out and not for the last time: one firing less, and without end stays without end.
     fn again(self) -> Order
         ensures { result ≡ again_of self }
     {
-        let due = self.due;
-        let next = due.forward(self.every as u64);
-        let mut order = self;
-        order.due = next;
-        order.left = fewer(self.left);
-        order
+        Order {
+            due: self.due.forward(self.every as u64),
+            left: self.left.saturating_sub(1),
+            ..self
+        }
     }
 
     // The clock reads its moment.
     pub fn is_due(self, now: TimeOfDay) -> bool
         ensures { result ≡ due_at now self }
     {
-        let due = self.due;
-        due.milliseconds == now.milliseconds
+        self.due.milliseconds == now.milliseconds
     }
 
     // After a moment: an order that was due then has one firing less, and leaves after its last or is next due its interval later.
-    pub fn onward(self, now: TimeOfDay) -> Onward
+    #[tactic(auto, unfolding(crate::specs::Advance::onward_of))]
+    pub fn onward(self, now: TimeOfDay) -> Option<Order>
         ensures { result ≡ onward_of now self }
     {
-        if self.is_due(now) {
-            if self.left == 1 {
-                return Onward {
-                    stays: false,
-                    order: self,
-                };
-            }
-            let order = self.again();
-            return Onward { stays: true, order };
-        }
-        Onward {
-            stays: true,
-            order: self,
+        if !self.is_due(now) {
+            Some(self)
+        } else if self.left == 1 {
+            None
+        } else {
+            Some(self.again())
         }
     }
 }
@@ -202,171 +174,120 @@ impl Orders {
         }
     }
 
+    // The orders that stand, the first accepted first.
+    #[tactic(auto, unfolding(crate::specs::Orders::standing_of))]
+    fn standing(&self) -> &[Order]
+        ensures { result.now ≡ standing_of self.now }
+    {
+        &self.places[..self.count.min(MOST_ORDERS)]
+    }
+
     // Behind all others. (Where all 64 places are taken it is left out: `accept` asks first.)
-    fn push(self, order: Order) -> Orders
+    #[tactic(auto, unfolding(crate::specs::Orders::push_of))]
+    fn push(mut self, order: Order) -> Orders
         ensures { result ≡ push_of self order }
     {
-        let count = self.count;
-        if count < MOST_ORDERS {
-            let mut places = self.places;
-            places[count] = order;
-            Orders {
-                places,
-                count: count + 1,
-            }
-        } else {
-            self
+        if self.count < MOST_ORDERS {
+            self.places[self.count] = order;
+            self.count += 1;
         }
+        self
     }
 
     // The order as the last one, if one of so many places is left.
-    pub fn accept(self, places: usize, order: Order) -> Accept
+    #[tactic(auto, unfolding(crate::specs::Orders::accept_of))]
+    pub fn accept(self, places: usize, order: Order) -> Option<Orders>
         ensures { result ≡ accept_of self places order }
     {
-        if self.count < common::least(places, MOST_ORDERS) {
-            let orders = self.push(order);
-            Accept {
-                accepted: true,
-                orders,
-            }
+        if self.count < places.min(MOST_ORDERS) {
+            Some(self.push(order))
         } else {
-            Accept {
-                accepted: false,
-                orders: self,
-            }
+            None
         }
     }
 
-    // The same, where it stays.
-    fn push_if(self, stays: bool, order: Order) -> Orders
-        ensures { result ≡ push_if_of self stays order }
-    {
-        if stays { self.push(order) } else { self }
-    }
-
     // All but the order at one place, in a table that is written anew, free places too. Where no order stands there, all of them.
-    pub fn without_place(self, place: usize) -> Orders
-        ensures { result ≡ without_place_of place self }
+    pub fn without_place(&self, place: usize) -> Orders
+        ensures { result ≡ without_place_of place self.now }
     {
-        let count = common::least(self.count, MOST_ORDERS);
         let mut left = Orders::none();
-        let mut at = 0;
-        while at < count {
+        for (at, order) in self.standing().iter().enumerate() {
             if at != place {
-                let order = self.places[at];
-                let behind = left.count;
-                left.places[behind] = order;
-                left.count = behind + 1;
+                left.places[left.count] = *order;
+                left.count += 1;
             }
-            at += 1;
         }
         left
     }
 
     // How long until an order is next due: a day at most.
-    pub fn next_due(self, clock: TimeOfDay) -> u32
-        ensures { result ≡ next_due_of clock self }
+    pub fn next_due(&self, clock: TimeOfDay) -> u32
+        ensures { result ≡ next_due_of clock self.now }
     {
-        let count = common::least(self.count, MOST_ORDERS);
-        let mut nearest = day::DAY;
-        let mut at = 0;
-        while at < count {
-            let order = self.places[at];
-            let due = order.due;
-            nearest = common::least_u32(nearest, clock.until(due));
-            at += 1;
-        }
-        nearest
+        self.standing()
+            .iter()
+            .map(|order| clock.until(order.due))
+            .min()
+            .unwrap_or(day::DAY)
     }
 
     // How many orders match a sender and a receiver.
-    pub fn how_many(self, sender: Target, receiver: u8) -> usize
-        ensures { result ≡ how_many_of sender receiver self }
+    pub fn how_many(&self, sender: Target, receiver: u8) -> usize
+        ensures { result ≡ how_many_of sender receiver self.now }
     {
-        let places = self.places;
-        let count = common::least(self.count, MOST_ORDERS);
-        let mut found = 0;
-        let mut at = 0;
-        while at < count {
-            let order = places[at];
-            found += common::one_if(order.matches(sender, receiver));
-            at += 1;
-        }
-        found
+        self.standing()
+            .iter()
+            .filter(|order| order.matches(sender, receiver))
+            .count()
     }
 
     // All but those that match.
-    fn without(self, sender: Target, receiver: u8) -> Orders
-        ensures { result ≡ without_of sender receiver self }
+    fn without(&self, sender: Target, receiver: u8) -> Orders
+        ensures { result ≡ without_of sender receiver self.now }
     {
-        let places = self.places;
-        let count = common::least(self.count, MOST_ORDERS);
         let mut left = Orders::none();
-        let mut at = 0;
-        while at < count {
-            let order = places[at];
-            let leaves = order.matches(sender, receiver);
-            left = left.push_if(!leaves, order);
-            at += 1;
+        for order in self.standing() {
+            if !order.matches(sender, receiver) {
+                left.places[left.count] = *order;
+                left.count += 1;
+            }
         }
         left
     }
 
-    // CANCELSCHEDULE. Where a sender is named, only its own orders leave.
-    pub fn cancel(self, sender: Target, receiver: Target) -> Cancel
-        ensures { result ≡ cancel_of sender receiver self }
+    // CANCELSCHEDULE: the orders that are left. Where a sender is named, only its own leave.
+    #[tactic(auto, unfolding(crate::specs::Cancel::cancel_of))]
+    pub fn cancel(&self, sender: Target, receiver: Target) -> Result<Orders, NotCancelled>
+        ensures { result ≡ cancel_of sender receiver self.now }
     {
         match sender {
-            Target::All => self.to_receiver(sender, receiver),
-            Target::Level(level) => self.to_receiver(Target::Level(level), receiver),
-            Target::Unknown => Cancel {
-                cancelled: Cancelled::BadSender,
-                orders: self,
-            },
+            Target::Unknown => Err(NotCancelled::BadSender),
+            Target::All | Target::Level(_) => self.to_receiver(sender, receiver),
         }
     }
 
-    fn to_receiver(self, sender: Target, receiver: Target) -> Cancel
-        ensures { result ≡ to_receiver sender receiver self }
+    fn to_receiver(&self, sender: Target, receiver: Target) -> Result<Orders, NotCancelled>
+        ensures { result ≡ to_receiver sender receiver self.now }
     {
         match receiver {
-            Target::All => Cancel {
-                cancelled: Cancelled::UnknownReceiver,
-                orders: self,
-            },
             Target::Level(level) => self.removed(sender, level),
-            Target::Unknown => Cancel {
-                cancelled: Cancelled::UnknownReceiver,
-                orders: self,
-            },
+            Target::All | Target::Unknown => Err(NotCancelled::UnknownReceiver),
         }
     }
 
-    fn removed(self, sender: Target, receiver: u8) -> Cancel
-        ensures { result ≡ removed_of sender receiver self }
+    #[tactic(auto, unfolding(crate::specs::Cancel::removed_of))]
+    fn removed(&self, sender: Target, receiver: u8) -> Result<Orders, NotCancelled>
+        ensures { result ≡ removed_of sender receiver self.now }
     {
         if self.count == 0 {
-            return Cancel {
-                cancelled: Cancelled::NoOrder,
-                orders: self,
-            };
+            return Err(NotCancelled::NoOrder);
         }
         if self.how_many(Target::All, receiver) == 0 {
-            return Cancel {
-                cancelled: Cancelled::NotFound,
-                orders: self,
-            };
+            return Err(NotCancelled::NotFound);
         }
         if self.how_many(sender, receiver) == 0 {
-            return Cancel {
-                cancelled: Cancelled::NotTheirs,
-                orders: self,
-            };
+            return Err(NotCancelled::NotTheirs);
         }
-        let left = self.without(sender, receiver);
-        Cancel {
-            cancelled: Cancelled::Done,
-            orders: left,
-        }
+        Ok(self.without(sender, receiver))
     }
 }

@@ -39,25 +39,19 @@ impl Control {
     pub fn has_begun(self, level: u8) -> bool
         ensures { result ≡ begun_of self level }
     {
-        if level < 12 {
-            let begun = self.begun;
-            begun[level as usize]
-        } else {
-            false
-        }
+        self.begun.get(usize::from(level)).copied().unwrap_or(false)
     }
 
     // The process at a level has stated no length, or the common one.
     pub fn agrees(self, level: u8) -> bool
         ensures { result ≡ agrees_of self level }
     {
-        if level < 12 {
-            let stated = self.stated;
-            let own = stated[level as usize];
-            (own == NEVER) | (own == self.common)
-        } else {
-            true
-        }
+        let own = self
+            .stated
+            .get(usize::from(level))
+            .copied()
+            .unwrap_or(NEVER);
+        (own == NEVER) | (own == self.common)
     }
 
     // The process at a level calls INITPOOL.
@@ -65,8 +59,9 @@ impl Control {
         ensures { result ≡ began_of self level }
     {
         let mut control = self;
+        // No get_mut, here and below: a proof knows no element of an array that was written through it.
         if level < 12 {
-            control.begun[level as usize] = true;
+            control.begun[usize::from(level)] = true;
         }
         control
     }
@@ -77,7 +72,7 @@ impl Control {
     {
         let mut control = self;
         if level < 12 {
-            control.stated[level as usize] = length;
+            control.stated[usize::from(level)] = length;
         }
         control.common = length;
         control
@@ -95,11 +90,7 @@ pub fn cleared() -> [u8; 4_096]
 fn lies(offset: usize, length: usize, bytes: usize) -> bool
     ensures { result ≡ leb (offset + length) bytes }
 {
-    if offset <= bytes {
-        length <= bytes - offset
-    } else {
-        false
-    }
+    offset.checked_add(length).is_some_and(|end| end <= bytes)
 }
 
 // The caller's data into a part of the pool, which is lent on from its offset. A part that does not lie within the pool is not touched.

@@ -11,10 +11,9 @@ use Rattle.table.specs.declared.configs.Config.{Config}
 use Rattle.table.specs.declared.Table.{Table}
 use Rattle.table.specs.Answers.{number_of}
 use Rattle.table.specs.Words.{negative16}
-use Rattle.calls.specs.declared.Verdict.{Verdict}
 use Rattle.calls.specs.Effects.{Effect, bytes, done, carrying}
 use Rattle.calls.specs.Levels.{with_pool}
-use Rattle.calls.specs.Verdicts.{Check, check, after, by_caller, called}
+use Rattle.calls.specs.Verdicts.{Checked, Check, check, after, by_caller, called}
 
 -- "18 DATALENFAULT if the part and the caller's data differ in length": a negative length of a part is no length of data
 unfoldable pub same_length : ℕ → ℕ → Bool
@@ -74,5 +73,5 @@ buffer_by answer pool offset buffer = pick (granted answer) (get_of pool offset 
 
 -- ---- the checks as the code makes them, on small parts
 
-unfoldable pub access_of : Config → Process → Control → ℕ → ℕ → ℕ → ℕ → Verdict
+unfoldable pub access_of : Config → Process → Control → ℕ → ℕ → ℕ → ℕ → Checked
 access_of c p control caller offset count own = after (by_caller c p caller) (access_checks c control caller offset count own)

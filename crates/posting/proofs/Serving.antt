@@ -8,6 +8,7 @@ use lib.Dec.{eqb}
 use lib.ListN.{length, set}
 use lib.Seq.{set-get_or}
 use borrow.Author.Tests.{eqb-true, eqb-false}
+use Rattle.std.specs.Prelude.{Option, Some, None}
 use Rattle.common.specs.Stands.{stands_in, Once}
 use Rattle.common.proofs.Cases.{by_test, never_both}
 use Rattle.common.proofs.Once.{stands_cases, stands_none}
@@ -16,10 +17,11 @@ use Rattle.process.specs.declared.Condition.TheVariants.{Always, Waiting}
 use Rattle.process.specs.declared.Delivery.{Delivery}
 use Rattle.process.specs.declared.Fate.TheVariants.{Full}
 use Rattle.process.specs.declared.Process.{Process}
+use Rattle.process.specs.declared.buffers.Buffer.{Buffer}
 use Rattle.process.specs.declared.buffers.Message.{Message}
 use Rattle.process.specs.declared.states.State.TheVariants.{Ready}
 use Rattle.process.specs.Messages.{put_of}
-use Rattle.process.specs.Process.{fresh_of, overflow_marked_of, deliver_of, handed_of, stored_of, kept_of}
+use Rattle.process.specs.Process.{fresh_of, overflow_marked_of, deliver_of, handed_of, stored_as, stored_of, kept_of}
 use Rattle.calls.specs.Levels.{process_at}
 use Rattle.posting.specs.declared.Origin.{Origin}
 use Rattle.posting.specs.declared.Origin.TheVariants.{Sent}
@@ -70,10 +72,14 @@ module _ (origin : Origin) (places : ℕ) (condition : Condition) (m : Message) 
 -- ---- a receiver whose buffer is full
 
 -- what a full buffer loses leaves the process as it was
+stored_full : (p : Process) (put : Option Buffer) → is_full (stored_as p put).fate ≡ true → stored_as p put ≡ record { fate = Full; process = p }
+stored_full p None full = refl
+stored_full p (Some kept) full = absurd (never_both full refl)
+
 kept_full : (p : Process) (condition : Condition) (places : ℕ) (m : Message) → is_full (kept_of p condition places m).fate ≡ true
     → kept_of p condition places m ≡ record { fate = Full; process = p }
 unfolding stored_of
-kept_full p Always places m full = by_test (put_of p.buffer places m).stored (λ e. absurd (never_both (rw e at full) refl)) (λ e. rw e)
+kept_full p Always places m full = stored_full p (put_of p.buffer places m) full
 kept_full p Waiting places m full = absurd (never_both full refl)
 
 -- and nothing that is handed over is lost

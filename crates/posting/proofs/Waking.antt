@@ -7,6 +7,7 @@ use lib.Dec.{eqb, ltb}
 use lib.ListN.{length, length-map, length-set, get_or-eq_default}
 use lib.Seq.{get_or-set_same, get_or-set_other, set_out}
 use borrow.Author.Tests.{eqb-true, eqb-false, ltb-true, ltb-false}
+use Rattle.std.specs.Prelude.{Some, None}
 use Rattle.common.specs.Stands.{stands_in, Once}
 use Rattle.common.proofs.Cases.{by_test, never_both}
 use Rattle.common.proofs.Once.{stands_cases, stands_none, once_below}
@@ -19,7 +20,7 @@ use Rattle.process.specs.declared.buffers.Message.{Message}
 use Rattle.process.specs.declared.states.State.{State}
 use Rattle.process.specs.declared.states.State.TheVariants.{Inactive, Ready, WaitingForMessage, WaitingForEvent, WaitingForSemaphore}
 use Rattle.process.specs.Messages.{put_of}
-use Rattle.process.specs.Process.{fresh_of, deliver_of, handed_of, stored_of, kept_of}
+use Rattle.process.specs.Process.{fresh_of, deliver_of, handed_of, stored_as, stored_of, kept_of}
 use Rattle.process.specs.States.{is_of}
 use Rattle.process.proofs.Delivering.{deliver_waiting, deliver_other}
 use Rattle.calls.specs.Levels.{process_at}
@@ -62,13 +63,13 @@ handed_state p = refl
 -- a message that is kept or lost wakes nobody
 kept_wakes : (level : ℕ) (p : Process) (condition : Condition) (places : ℕ) (m : Message) → wake_by level (kept_of p condition places m).fate m ≡ []
 unfolding stored_of
-kept_wakes level p Always places m = by_test (put_of p.buffer places m).stored (λ e. rw e) (λ e. rw e)
+kept_wakes level p Always places m = elim (put_of p.buffer places m) as (λ put. wake_by level (stored_as p put).fate m ≡ []) [ None ↦ refl | Some kept ↦ refl ]
 kept_wakes level p Waiting places m = refl
 
 -- and leaves the state
 kept_state : (p : Process) (condition : Condition) (places : ℕ) (m : Message) → (kept_of p condition places m).process.state ≡ p.state
 unfolding stored_of
-kept_state p Always places m = by_test (put_of p.buffer places m).stored (λ e. rw e) (λ e. rw e)
+kept_state p Always places m = elim (put_of p.buffer places m) as (λ put. (stored_as p put).process.state ≡ p.state) [ None ↦ refl | Some kept ↦ refl ]
 kept_state p Waiting places m = refl
 
 -- so does a mark

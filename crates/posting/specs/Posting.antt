@@ -68,7 +68,7 @@ delivered_to origin places condition m p = record {
 
 -- a receiver's wake: its message, and what is told with it
 abbrev pub message_wake : ℕ → Told → Message → Wake
-message_wake level told m = record { level = level; woken = ByMessage told; message = m; inputs = empty_of }
+message_wake level told m = record { level = level; woken = ByMessage told m }
 
 -- "A message for a process in WM is handed to it at once and wakes it"
 abbrev pub wake_by : ℕ → Fate → Message → List Wake

@@ -5,7 +5,6 @@
 ghost use Rattle.std.specs.Prelude.{◌≡◌};
 ghost use Rattle.posting.specs.Posting.{letter, is_handed, is_full, is_lost, marked_by, delivered_to, begin_of, pushed_for, step_of};
 
-use inputs::InputSet;
 use process::buffers::Message;
 use process::{Condition, Delivery, Fate, Process};
 use table::wakes::{Wake, Wakes, Woken};
@@ -28,40 +27,26 @@ pub struct Posting {
     pub full: bool,
 }
 
-// The message was handed over, and so wakes its receiver.
+// The message was handed over, and so wakes its receiver. No method, as those below: `Fate` is of `process`, and their definitions
+// are of this crate.
 pub fn is_handed(fate: Fate) -> bool
     ensures { result ≡ is_handed fate }
 {
-    match fate {
-        Fate::Handed(_) => true,
-        Fate::Stored => false,
-        Fate::NotWaiting => false,
-        Fate::Full => false,
-    }
+    matches!(fate, Fate::Handed(_))
 }
 
 // The message was lost by a full buffer.
 pub fn is_full(fate: Fate) -> bool
     ensures { result ≡ is_full fate }
 {
-    match fate {
-        Fate::Handed(_) => false,
-        Fate::Stored => false,
-        Fate::NotWaiting => false,
-        Fate::Full => true,
-    }
+    matches!(fate, Fate::Full)
 }
 
 // The message reached nobody.
 fn is_lost(fate: Fate) -> bool
     ensures { result ≡ is_lost fate }
 {
-    match fate {
-        Fate::Handed(_) => false,
-        Fate::Stored => false,
-        Fate::NotWaiting => true,
-        Fate::Full => true,
-    }
+    matches!(fate, Fate::NotWaiting | Fate::Full)
 }
 
 // The receiver with the mark that a lost message leaves: SEND's is the overflow mark of a full buffer, a timer order's the time
@@ -70,20 +55,10 @@ fn marked(origin: Origin, fate: Fate, process: Process) -> Process
     ensures { result ≡ marked_by origin fate process }
 {
     match origin {
-        Origin::Sent => {
-            if is_full(fate) {
-                process.overflow_marked()
-            } else {
-                process
-            }
-        }
-        Origin::Timed => {
-            if is_lost(fate) {
-                process.time_marked()
-            } else {
-                process
-            }
-        }
+        Origin::Sent if is_full(fate) => process.overflow_marked(),
+        Origin::Sent => process,
+        Origin::Timed if is_lost(fate) => process.time_marked(),
+        Origin::Timed => process,
     }
 }
 
@@ -97,11 +72,14 @@ pub fn delivered(
 ) -> Delivery
     ensures { result ≡ delivered_to origin places condition message process }
 {
-    let delivery = process.deliver(condition, places, message);
-    let fate = delivery.fate;
-    let after = delivery.process;
-    let process = marked(origin, fate, after);
-    Delivery { fate, process }
+    let Delivery {
+        fate,
+        process: after,
+    } = process.deliver(condition, places, message);
+    Delivery {
+        fate,
+        process: marked(origin, fate, after),
+    }
 }
 
 // The wakes, and the receiver's own behind them if the message was handed over.
@@ -111,13 +89,9 @@ pub fn pushed(wakes: Wakes, level: u8, fate: Fate, message: Message) -> Wakes
     match fate {
         Fate::Handed(told) => wakes.push(Wake {
             level,
-            woken: Woken::ByMessage(told),
-            message,
-            inputs: InputSet::empty(),
+            woken: Woken::ByMessage(told, message),
         }),
-        Fate::Stored => wakes,
-        Fate::NotWaiting => wakes,
-        Fate::Full => wakes,
+        Fate::Stored | Fate::NotWaiting | Fate::Full => wakes,
     }
 }
 
@@ -136,31 +110,24 @@ impl Posting {
     // One message to one level, with so many places in its buffer. At a level that there is not, a process that was never started stands
     // in for the receiver, and nobody's record changes.
     pub fn post(
-        self,
+        &mut self,
         origin: Origin,
         places: usize,
         receiver: u8,
         condition: Condition,
         message: Message,
-    ) -> Posting
-        ensures { result ≡ step_of origin places self (letter receiver condition message) }
+    )
+        ensures { self.new ≡ step_of origin places self.old (letter receiver condition message) }
     {
-        let mut posting = self;
-        let wakes = posting.wakes;
-        if receiver < 12 {
-            let process = posting.processes[receiver as usize];
+        let fate = if receiver < 12 {
+            let process = self.processes[receiver as usize];
             let delivery = delivered(origin, places, condition, message, process);
-            let fate = delivery.fate;
-            let after = delivery.process;
-            posting.processes[receiver as usize] = after;
-            posting.wakes = pushed(wakes, receiver, fate, message);
-            posting.full = posting.full | is_full(fate);
+            self.processes[receiver as usize] = delivery.process;
+            delivery.fate
         } else {
-            let delivery = Process::fresh().deliver(condition, places, message);
-            let missed = delivery.fate;
-            posting.wakes = pushed(wakes, receiver, missed, message);
-            posting.full = posting.full | is_full(missed);
-        }
-        posting
+            Process::fresh().deliver(condition, places, message).fate
+        };
+        self.wakes = pushed(self.wakes, receiver, fate, message);
+        self.full |= is_full(fate);
     }
 }

@@ -1,11 +1,10 @@
 -- What a delivery does, by the receiver's state. Assumes nothing.
 use mathlib.Core.Path.{◌≡◌, ◌∙◌, refl, ap}
 use Prim.Native.Nat.{ℕ, ◌<◌, ◌≤◌, min}
+use Rattle.std.specs.Prelude.{Option, None}
 use Rattle.process.specs.declared.states.State.{State}
 use Rattle.process.specs.declared.states.State.TheVariants.{Inactive, Ready, WaitingForMessage, WaitingForEvent, WaitingForSemaphore}
 use Rattle.process.specs.declared.states.Cause.TheVariants as Cause
-use Rattle.process.specs.declared.states.Next.{Next}
-use Rattle.process.specs.declared.states.Next.TheVariants.{Nowhere}
 use Rattle.process.specs.declared.buffers.Message.{Message}
 use Rattle.process.specs.declared.Process.{Process}
 use Rattle.process.specs.declared.Condition.{Condition}
@@ -17,7 +16,7 @@ use Rattle.process.specs.Process.{process_of, deliver_to, deliver_of, handed_of,
 use Rattle.process.proofs.Places.{put_room, put_full}
 
 -- a message leads from no state but one
-elsewhere : (s : State) → (s ≡ WaitingForMessage → ⊥) → next_of s Cause.Message ≡ Nowhere
+elsewhere : (s : State) → (s ≡ WaitingForMessage → ⊥) → next_of s Cause.Message ≡ None
 unfolding next_of
 elsewhere Inactive other = refl
 elsewhere Ready other = refl
@@ -27,9 +26,9 @@ elsewhere WaitingForSemaphore other = refl
 
 module _ (p : Process) (condition : Condition) (places : ℕ) (m : Message) where
   -- a delivery goes by where a message leads from the process's state
-  pub deliver_next : (next : Next) → next_of p.state Cause.Message ≡ next → deliver_of p condition places m ≡ deliver_to next p condition places m
+  pub deliver_next : (next : Option State) → next_of p.state Cause.Message ≡ next → deliver_of p condition places m ≡ deliver_to next p condition places m
   unfolding deliver_of
-  deliver_next next leads = ap (λ (n : Next). deliver_to n p condition places m) leads
+  deliver_next next leads = ap (λ (n : Option State). deliver_to n p condition places m) leads
 
   -- a process that waits for a message has it at once, whatever the condition, and is READY
   pub deliver_waiting : p.state ≡ WaitingForMessage → deliver_of p condition places m ≡ handed_of p Ready

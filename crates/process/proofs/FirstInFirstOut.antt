@@ -1,6 +1,5 @@
 -- A buffer is first in, first out, and its freed places are used again. Assumes nothing.
 use mathlib.Core.Path.{◌≡◌, ◌∙◌, ap, ap₂, sym, subst, subst⁻¹}
-use mathlib.Core.Bool.{true, false}
 use mathlib.Core.List.{List, [], ◌∷◌, ◌++◌, append_assoc, append-nil}
 use Prim.Native.Nat.{ℕ, suc, ◌-◌, ◌<◌, ◌≤◌, min}
 use native.Mathlib.Omega.{arith}
@@ -9,11 +8,11 @@ use lib.Dec.{eqb, ltb}
 use lib.ListN.{length, get_or, take, drop, length-set, length-append, length-drop, length-take}
 use lib.Seq.{take-suc-set, take-append-le}
 use borrow.Author.Tests.{eqb-true, eqb-false, ltb-true, ltb-false}
+use Rattle.std.specs.Prelude.{Option, Some, None, is_some, IsSome, unwrap_or}
 use Rattle.common.specs.Choice.{pick}
 use Rattle.common.proofs.Cases.{by_test}
 use Rattle.process.specs.declared.buffers.Message.{Message}
 use Rattle.process.specs.declared.buffers.Buffer.{Buffer}
-use Rattle.process.specs.declared.buffers.Put.{Put}
 use Rattle.process.specs.Messages.{zeros, messages_of, behind_of, put_of, oldest_of, rest_of}
 use Rattle.process.specs.FirstInFirstOut.{Step, putting, taking, step_of, in_of, out_of, after_of, ins_of, outs_of, Whole}
 use Rattle.process.proofs.Places.{oldest_first, rest_none, rest_some, put_room, put_full}
@@ -55,15 +54,15 @@ rest_whole b whole some =
 
 module _ (places : ℕ) where
   -- what a put does, by whether there is room
-  by_room : (P : Put → Type 0) (b : Buffer) (m : Message)
-      → (b.count < 16 → P (record { stored = true; buffer = behind_of b m })) → P (record { stored = false; buffer = b }) → P (put_of b places m)
+  by_room : (P : Option Buffer → Type 0) (b : Buffer) (m : Message)
+      → (b.count < 16 → P (Some (behind_of b m))) → P None → P (put_of b places m)
   by_room P b m stored full =
       by_test (ltb b.count (min places 16))
       (λ e. let room : b.count < min places 16 = ltb-true _ _ e in subst P (sym (put_room b places m room)) (stored (omega arith)))
       (λ e. subst P (sym (put_full b places m (ltb-false _ _ e))) full)
 
   step_whole : (s : Step) (b : Buffer) → Whole b → Whole (step_of places s b)
-  step_whole (putting m) b whole = by_room (λ put. Whole put.buffer) b m (behind_whole b m whole) whole
+  step_whole (putting m) b whole = by_room (λ put. Whole (unwrap_or put b)) b m (behind_whole b m whole) whole
   step_whole taking b whole =
       by_test (eqb b.count 0)
       (λ e. rw (rest_none b (eqb-true _ _ e)) whole)
@@ -72,7 +71,7 @@ module _ (places : ℕ) where
   -- one step: what it hands out, and what is kept after it, are what was kept before it, and what it found a place for
   step_order : (s : Step) (b : Buffer) → Whole b → out_of places s b ++ messages_of (step_of places s b) ≡ messages_of b ++ in_of places s b
   step_order (putting m) b whole =
-      by_room (λ put. messages_of put.buffer ≡ messages_of b ++ pick put.stored (m ∷ []) []) b m
+      by_room (λ put. messages_of (unwrap_or put b) ≡ messages_of b ++ pick (is_some put) (m ∷ []) []) b m
       (behind_messages b m whole)
       (sym (append-nil _))
   step_order taking b whole =
@@ -91,6 +90,6 @@ module _ (places : ℕ) where
       ∙ append_assoc (messages_of b) _ _
 
   -- a place that is freed is used again
-  pub freed_place : (b : Buffer) (m : Message) → b.count ≤ min places 16 → (b.count ≡ 0 → ⊥) → (put_of (rest_of b) places m).stored ≡ true
+  pub freed_place : (b : Buffer) (m : Message) → b.count ≤ min places 16 → (b.count ≡ 0 → ⊥) → IsSome (put_of (rest_of b) places m)
   freed_place b m fits some =
-      subst⁻¹ (λ (r : Buffer). (put_of r places m).stored ≡ true) (rest_some b some) (ap (λ (put : Put). put.stored) (put_room _ places m (omega arith)))
+      subst⁻¹ (λ (r : Buffer). IsSome (put_of r places m)) (rest_some b some) (ap is_some (put_room _ places m (omega arith)))

@@ -5,8 +5,11 @@ use mathlib.Core.Bool.{Bool, true, false}
 use mathlib.Core.List.{List, [], ◌∷◌}
 use Prim.Native.Nat.{ℕ, ◌+◌, ◌<◌}
 use lib.Dec.{eqb, lit<}
+use borrow.Author.Rules.{rules}
 use borrow.Author.Tests.{eqb-true}
+use denote.Enum.Bare.{sameb}
 use lib.ListN.{get_or}
+use Rattle.std.specs.Prelude.{Option, Some, None}
 use Rattle.common.specs.Choice.{pick}
 use Rattle.common.specs.Every.{every}
 use Rattle.common.proofs.Cases.{never_both}
@@ -15,9 +18,8 @@ use Rattle.process.specs.declared.states.State.{State}
 use Rattle.process.specs.declared.states.State.TheVariants.{Inactive, Ready, WaitingForMessage, WaitingForEvent, WaitingForSemaphore}
 use Rattle.process.specs.declared.states.Cause.{Cause}
 use Rattle.process.specs.declared.states.Cause.TheVariants.{Start, WaitForMessage, Message, WaitForEvent, Event, WaitForSemaphore, Handover}
-use Rattle.process.specs.declared.states.Next.{Next}
-use Rattle.process.specs.declared.states.Next.TheVariants.{Nowhere, To}
-use Rattle.process.specs.States.{row_of, column_of, next_of}
+use Rattle.process.specs.contracts.states.State.{the_type}
+use Rattle.process.specs.States.{row_of, is_of, column_of, next_of}
 
 abbrev pub states : List State
 states = Inactive ∷ Ready ∷ WaitingForMessage ∷ WaitingForEvent ∷ WaitingForSemaphore ∷ []
@@ -42,33 +44,37 @@ column_known Event = (lit< tt, refl)
 column_known WaitForSemaphore = (lit< tt, refl)
 column_known Handover = (lit< tt, refl)
 
--- two entries are the same
-abbrev same : Next → Next → Bool
-same Nowhere Nowhere = true
-same Nowhere (To t) = false
-same (To s) Nowhere = false
-same (To s) (To t) = eqb (row_of s) (row_of t)
+-- the derived `==` says of two states what the document's order says
+pub same_state : (s t : State) → sameb the_type s t ≡ is_of s t
+same_state s t = search rules
 
-same_is : (m n : Next) → same m n ≡ true → m ≡ n
-same_is Nowhere Nowhere h = refl
-same_is Nowhere (To t) h = absurd (never_both h refl)
-same_is (To s) Nowhere h = absurd (never_both h refl)
-same_is (To s) (To t) h =
-    ap To (sym (row_known s).1 ∙ ap (λ (i : ℕ). get_or states i Inactive) (eqb-true (row_of s) (row_of t) h) ∙ (row_known t).1)
+-- two entries are the same
+abbrev same : Option State → Option State → Bool
+same None None = true
+same None (Some t) = false
+same (Some s) None = false
+same (Some s) (Some t) = eqb (row_of s) (row_of t)
+
+same_is : (m n : Option State) → same m n ≡ true → m ≡ n
+same_is None None h = refl
+same_is None (Some t) h = absurd (never_both h refl)
+same_is (Some s) None h = absurd (never_both h refl)
+same_is (Some s) (Some t) h =
+    ap Some (sym (row_known s).1 ∙ ap (λ (i : ℕ). get_or states i Inactive) (eqb-true (row_of s) (row_of t) h) ∙ (row_known t).1)
 
 -- the table as the code has it: a row for each state, an entry for each cause
-abbrev pub rows : List (List Next)
+abbrev pub rows : List (List (Option State))
 rows =
-    (To Ready ∷ Nowhere ∷ Nowhere ∷ Nowhere ∷ Nowhere ∷ Nowhere ∷ Nowhere ∷ [])
-    ∷ (Nowhere ∷ To WaitingForMessage ∷ Nowhere ∷ To WaitingForEvent ∷ Nowhere ∷ To WaitingForSemaphore ∷ Nowhere ∷ [])
-    ∷ (Nowhere ∷ Nowhere ∷ To Ready ∷ Nowhere ∷ Nowhere ∷ Nowhere ∷ Nowhere ∷ [])
-    ∷ (Nowhere ∷ Nowhere ∷ Nowhere ∷ Nowhere ∷ To Ready ∷ Nowhere ∷ Nowhere ∷ [])
-    ∷ (Nowhere ∷ Nowhere ∷ Nowhere ∷ Nowhere ∷ Nowhere ∷ Nowhere ∷ To Ready ∷ [])
+    (Some Ready ∷ None ∷ None ∷ None ∷ None ∷ None ∷ None ∷ [])
+    ∷ (None ∷ Some WaitingForMessage ∷ None ∷ Some WaitingForEvent ∷ None ∷ Some WaitingForSemaphore ∷ None ∷ [])
+    ∷ (None ∷ None ∷ Some Ready ∷ None ∷ None ∷ None ∷ None ∷ [])
+    ∷ (None ∷ None ∷ None ∷ None ∷ Some Ready ∷ None ∷ None ∷ [])
+    ∷ (None ∷ None ∷ None ∷ None ∷ None ∷ None ∷ Some Ready ∷ [])
     ∷ []
 
 -- its entry for a state and a cause
-abbrev pub entry_of : State → Cause → Next
-entry_of s c = get_or (get_or rows (row_of s) []) (column_of c) Nowhere
+abbrev pub entry_of : State → Cause → Option State
+entry_of s c = get_or (get_or rows (row_of s) []) (column_of c) None
 
 abbrev right : State → Cause → Bool
 right s c = same (entry_of s c) (next_of s c)
@@ -87,7 +93,7 @@ entry_next s c =
 -- how many of the causes lead anywhere from a state, and from all of them
 abbrev leading : State → List Cause → ℕ
 leading s [] = 0
-leading s (c ∷ l) = pick (same (next_of s c) Nowhere) 0 1 + leading s l
+leading s (c ∷ l) = pick (same (next_of s c) None) 0 1 + leading s l
 
 abbrev leadings : List State → ℕ
 leadings [] = 0

@@ -1,5 +1,5 @@
 -- Document 01, "Messages": "Buffers are first in, first out". What goes into a buffer and what comes out of it, over any sequence of puts and takes.
-use Rattle.std.specs.Prelude.{List, [], ◌∷◌, ◌++◌, ℕ, ◌≤◌, ◌≡◌, eqb, length}
+use Rattle.std.specs.Prelude.{List, [], ◌∷◌, ◌++◌, ℕ, ◌≤◌, ◌≡◌, eqb, length, is_some, unwrap_or}
 use Rattle.common.specs.Choice.{pick}
 use Rattle.process.specs.declared.buffers.Message.{Message}
 use Rattle.process.specs.declared.buffers.Buffer.{Buffer}
@@ -13,12 +13,12 @@ pub data Step : Type 0 where
 
 module _ (places : ℕ) where
   abbrev pub step_of : Step → Buffer → Buffer
-  step_of (putting m) b = (put_of b places m).buffer
+  step_of (putting m) b = unwrap_or (put_of b places m) b
   step_of taking b = rest_of b
 
   -- the message that a step finds a place for
   abbrev pub in_of : Step → Buffer → List Message
-  in_of (putting m) b = pick (put_of b places m).stored (m ∷ []) []
+  in_of (putting m) b = pick (is_some (put_of b places m)) (m ∷ []) []
   in_of taking b = []
 
   -- the message that a step hands out

@@ -1,9 +1,8 @@
 -- Document 01, "Messages": "Sixteen bytes. Buffers are first in, first out, NP places, freed places used again."
-use Rattle.std.specs.Prelude.{Bool, true, false, List, [], ◌∷◌, ◌++◌, ℕ, ◌+◌, ◌-◌, min, eqb, ltb, get_or, take, drop, set, replicate}
+use Rattle.std.specs.Prelude.{Bool, Option, Some, None, List, [], ◌∷◌, ◌++◌, ℕ, ◌+◌, ◌-◌, min, eqb, ltb, get_or, take, drop, set, replicate}
 use Rattle.common.specs.Choice.{pick}
 use Rattle.process.specs.declared.buffers.Message.{Message}
 use Rattle.process.specs.declared.buffers.Buffer.{Buffer}
-use Rattle.process.specs.declared.buffers.Put.{Put}
 
 abbrev pub zeros : Message
 zeros = record { bytes = replicate 16 0 }
@@ -23,8 +22,9 @@ room_of b places = ltb b.count (min places 16)
 abbrev pub behind_of : Buffer → Message → Buffer
 behind_of b m = record { kept = set b.kept b.count m; count = b.count + 1 }
 
-unfoldable pub put_of : Buffer → ℕ → Message → Put
-put_of b places m = pick (room_of b places) (record { stored = true; buffer = behind_of b m }) (record { stored = false; buffer = b })
+-- a buffer with the message behind the others, if one of the places is left
+unfoldable pub put_of : Buffer → ℕ → Message → Option Buffer
+put_of b places m = pick (room_of b places) (Some (behind_of b m)) None
 
 -- "oldest message"; sixteen zeros where there is none
 unfoldable pub oldest_of : Buffer → Message

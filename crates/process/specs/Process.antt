@@ -1,14 +1,11 @@
 -- Document 01, "States" and "Messages": one process's record, and how a message reaches it.
-use Rattle.std.specs.Prelude.{Bool, true, false, ℕ}
-use Rattle.common.specs.Choice.{pick}
+use Rattle.std.specs.Prelude.{Bool, true, false, ℕ, Option, Some, None}
 use Rattle.process.specs.States.{next_of}
 use Rattle.process.specs.Messages.{empty_of, put_of, oldest_of, rest_of}
 use Rattle.process.specs.Marks.{marks_of, tell_of}
 use Rattle.process.specs.declared.states.State.{State}
 use Rattle.process.specs.declared.states.State.TheVariants.{Inactive}
 use Rattle.process.specs.declared.states.Cause.{Cause}
-use Rattle.process.specs.declared.states.Next.{Next}
-use Rattle.process.specs.declared.states.Next.TheVariants.{Nowhere, To}
 use Rattle.process.specs.declared.buffers.Message.{Message}
 use Rattle.process.specs.declared.buffers.Buffer.{Buffer}
 use Rattle.process.specs.declared.marking.Marks.{Marks}
@@ -29,9 +26,9 @@ abbrev pub fresh_of : Process
 fresh_of = process_of Inactive 32 (marks_of false false) empty_of
 
 -- in the next state, if there is one
-abbrev pub moved_to : Next → Process → Process
-moved_to Nowhere p = p
-moved_to (To state) p = process_of state p.priority p.marks p.buffer
+abbrev pub moved_to : Option State → Process → Process
+moved_to None p = p
+moved_to (Some state) p = process_of state p.priority p.marks p.buffer
 
 unfoldable pub moved_of : Process → Cause → Process
 moved_of p cause = moved_to (next_of p.state cause) p
@@ -59,21 +56,23 @@ handed_of p state = record {
   process = process_of state p.priority (tell_of p.marks).marks p.buffer;
 }
 
+-- with the buffer that keeps the message, if a place was left for it
+abbrev pub stored_as : Process → Option Buffer → Delivery
+stored_as p (Some kept) = record { fate = Stored; process = process_of p.state p.priority p.marks kept }
+stored_as p None = record { fate = Full; process = p }
+
 -- "handed, or stored, or 3"
 unfoldable pub stored_of : Process → ℕ → Message → Delivery
-stored_of p places m =
-    pick (put_of p.buffer places m).stored
-    (record { fate = Stored; process = process_of p.state p.priority p.marks (put_of p.buffer places m).buffer })
-    (record { fate = Full; process = p })
+stored_of p places m = stored_as p (put_of p.buffer places m)
 
 -- a message for a process that does not wait for one: "WAITING and not in WM gives 2"
 abbrev pub kept_of : Process → Condition → ℕ → Message → Delivery
 kept_of p Always places m = stored_of p places m
 kept_of p Waiting places m = record { fate = NotWaiting; process = p }
 
-abbrev pub deliver_to : Next → Process → Condition → ℕ → Message → Delivery
-deliver_to (To state) p condition places m = handed_of p state
-deliver_to Nowhere p condition places m = kept_of p condition places m
+abbrev pub deliver_to : Option State → Process → Condition → ℕ → Message → Delivery
+deliver_to (Some state) p condition places m = handed_of p state
+deliver_to None p condition places m = kept_of p condition places m
 
 -- "A message for a process in WM is handed to it at once and wakes it; a buffer is never filled while its owner is in WM."
 unfoldable pub deliver_of : Process → Condition → ℕ → Message → Delivery

@@ -1,12 +1,10 @@
 -- Document 01, "States": "Of the 35 pairs of state and cause exactly seven lead anywhere".
-use Rattle.std.specs.Prelude.{List, [], ◌∷◌, Bool, false, ℕ, eqb}
+use Rattle.std.specs.Prelude.{List, [], ◌∷◌, Bool, false, ℕ, eqb, Option, Some, None}
 use Rattle.common.specs.Choice.{pick}
 use Rattle.process.specs.declared.states.State.{State}
 use Rattle.process.specs.declared.states.State.TheVariants.{Inactive, Ready, WaitingForMessage, WaitingForEvent, WaitingForSemaphore}
 use Rattle.process.specs.declared.states.Cause.{Cause}
 use Rattle.process.specs.declared.states.Cause.TheVariants.{Start, WaitForMessage, Message, WaitForEvent, Event, WaitForSemaphore, Handover}
-use Rattle.process.specs.declared.states.Next.{Next}
-use Rattle.process.specs.declared.states.Next.TheVariants.{Nowhere, To}
 
 -- the states and the causes in the document's order, counted from 0
 abbrev pub row_of : State → ℕ
@@ -52,10 +50,10 @@ seven_moves =
 abbrev pub is_move : State → Cause → Move → Bool
 is_move state cause m = pick (eqb (row_of state) (row_of m.from)) (eqb (column_of cause) (column_of m.cause)) false
 
-abbrev pub among_moves : State → Cause → List Move → Next
-among_moves state cause [] = Nowhere
-among_moves state cause (m ∷ others) = pick (is_move state cause m) (To m.to) (among_moves state cause others)
+abbrev pub among_moves : State → Cause → List Move → Option State
+among_moves state cause [] = None
+among_moves state cause (m ∷ others) = pick (is_move state cause m) (Some m.to) (among_moves state cause others)
 
 -- where a cause leads from a state: where one of the seven moves says, and else nowhere
-unfoldable pub next_of : State → Cause → Next
+unfoldable pub next_of : State → Cause → Option State
 next_of state cause = among_moves state cause seven_moves

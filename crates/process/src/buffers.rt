@@ -11,16 +11,11 @@ pub struct Message {
 }
 
 // The oldest message lies at place 0, and `count` says how many are kept. What lies past them makes no difference.
+// Places and a count, as memory is fixed: there is no heap, and a record is copied whole.
 #[derive(Clone, Copy)]
 pub struct Buffer {
     pub kept: [Message; 16],
     pub count: usize,
-}
-
-#[derive(Drop)]
-pub struct Put {
-    pub stored: bool,
-    pub buffer: Buffer,
 }
 
 impl Message {
@@ -28,18 +23,12 @@ impl Message {
 }
 
 // Each message one place further on, and the place that is freed at the end as if never used.
-fn shifted(kept: [Message; 16]) -> [Message; 16]
+fn shifted(mut kept: [Message; 16]) -> [Message; 16]
     ensures { result ≡ shifted_of kept }
 {
-    let mut moved = kept;
-    let mut place = 0;
-    while place < 15 {
-        let next = moved[place + 1];
-        moved[place] = next;
-        place += 1;
-    }
-    moved[15] = Message::ZEROS;
-    moved
+    kept.copy_within(1.., 0);
+    kept[15] = Message::ZEROS;
+    kept
 }
 
 impl Buffer {
@@ -52,27 +41,16 @@ impl Buffer {
         }
     }
 
-    // The message behind those that are kept, if one of so many places is left.
-    pub fn put(self, places: usize, message: Message) -> Put
+    // With the message behind those that are kept, if one of so many places is left.
+    pub fn put(mut self, places: usize, message: Message) -> Option<Buffer>
         ensures { result ≡ put_of self places message }
     {
-        let count = self.count;
-        if count < common::least(places, MOST_PLACES) {
-            let mut kept = self.kept;
-            kept[count] = message;
-            Put {
-                stored: true,
-                buffer: Buffer {
-                    kept,
-                    count: count + 1,
-                },
-            }
-        } else {
-            Put {
-                stored: false,
-                buffer: self,
-            }
+        if self.count >= places.min(MOST_PLACES) {
+            return None;
         }
+        self.kept[self.count] = message;
+        self.count += 1;
+        Some(self)
     }
 
     // The oldest message, or sixteen zeros of an empty buffer.
@@ -82,8 +60,7 @@ impl Buffer {
         if self.count == 0 {
             Message::ZEROS
         } else {
-            let kept = self.kept;
-            kept[0]
+            self.kept[0]
         }
     }
 
@@ -91,15 +68,12 @@ impl Buffer {
     pub fn rest(self) -> Buffer
         ensures { result ≡ rest_of self }
     {
-        let count = self.count;
-        if count == 0 {
+        if self.count == 0 {
             return self;
         }
-        let kept = self.kept;
-        let kept = shifted(kept);
         Buffer {
-            kept,
-            count: count - 1,
+            kept: shifted(self.kept),
+            count: self.count - 1,
         }
     }
 }

@@ -9,8 +9,8 @@ pub mod marking;
 pub mod states;
 
 use buffers::{Buffer, Message};
-use marking::{Marks, Told};
-use states::{Cause, Next, State};
+use marking::{Marks, Telling, Told};
+use states::{Cause, State};
 
 #[derive(Clone, Copy)]
 pub struct Process {
@@ -66,11 +66,7 @@ impl Target {
     pub fn is_known(self) -> bool
         ensures { result ≡ is_known self }
     {
-        match self {
-            Target::All => true,
-            Target::Level(_) => true,
-            Target::Unknown => false,
-        }
+        matches!(self, Target::All | Target::Level(_))
     }
 }
 
@@ -91,18 +87,9 @@ impl Process {
     pub fn moved(self, cause: Cause) -> Process
         ensures { result ≡ moved_of self cause }
     {
-        let marks = self.marks;
-        let buffer = self.buffer;
-        let state = self.state;
-        let next = state.next(cause);
-        match next {
-            Next::To(to) => Process {
-                state: to,
-                priority: self.priority,
-                marks,
-                buffer,
-            },
-            Next::Nowhere => self,
+        match self.state.next(cause) {
+            Some(state) => Process { state, ..self },
+            None => self,
         }
     }
 
@@ -113,46 +100,36 @@ impl Process {
         self.priority = priority;
     }
 
-    // The same for who holds the record by value, so that no caller needs a walk.
-    pub fn with_priority(self, priority: u8) -> Process
+    // The same for who holds the record by value.
+    pub fn with_priority(mut self, priority: u8) -> Process
         ensures { result ≡ with_priority_of self priority }
     {
-        let mut changed = self;
-        changed.set_priority(priority);
-        changed
+        self.set_priority(priority);
+        self
     }
 
     // CLEARMESSAGE's change: the messages go, the marks stay.
-    pub fn cleared(self) -> Process
+    pub fn cleared(mut self) -> Process
         ensures { result ≡ cleared_of self }
     {
-        let state = self.state;
-        let kept = self.marks;
-        let buffer = Buffer::empty();
-        Process {
-            state,
-            priority: self.priority,
-            marks: kept,
-            buffer,
-        }
+        self.buffer = Buffer::empty();
+        self
     }
 
     // Marked because its full buffer lost a message that was sent.
-    pub fn overflow_marked(self) -> Process
+    pub fn overflow_marked(mut self) -> Process
         ensures { result ≡ overflow_marked_of self }
     {
-        let mut marked = self;
-        marked.marks.overflow = true;
-        marked
+        self.marks.overflow = true;
+        self
     }
 
     // Marked because a timer order's message did not reach it.
-    pub fn time_marked(self) -> Process
+    pub fn time_marked(mut self) -> Process
         ensures { result ≡ time_marked_of self }
     {
-        let mut marked = self;
-        marked.marks.time = true;
-        marked
+        self.marks.time = true;
+        self
     }
 
     // A message on its way to this process, whether it was sent or a timer order's: handed over at once if the process
@@ -160,11 +137,9 @@ impl Process {
     pub fn deliver(self, condition: Condition, places: usize, message: Message) -> Delivery
         ensures { result ≡ deliver_of self condition places message }
     {
-        let state = self.state;
-        let next = state.next(Cause::Message);
-        match next {
-            Next::To(to) => self.handed(to),
-            Next::Nowhere => match condition {
+        match self.state.next(Cause::Message) {
+            Some(state) => self.handed(state),
+            None => match condition {
                 Condition::Always => self.stored(places, message),
                 Condition::Waiting => Delivery {
                     fate: Fate::NotWaiting,
@@ -178,42 +153,29 @@ impl Process {
     pub fn taken(self) -> Taken
         ensures { result ≡ taken_of self }
     {
-        let state = self.state;
-        let marks = self.marks;
-        let telling = marks.tell();
-        let told = telling.told;
-        let left = telling.marks;
-        let buffer = self.buffer;
-        let message = buffer.oldest();
-        let rest = buffer.rest();
+        let Telling { told, marks } = self.marks.tell();
         Taken {
             told,
-            message,
+            message: self.buffer.oldest(),
             process: Process {
-                state,
-                priority: self.priority,
-                marks: left,
-                buffer: rest,
+                marks,
+                buffer: self.buffer.rest(),
+                ..self
             },
         }
     }
 
     // Woken by a message, and told one of its marks.
-    fn handed(self, to: State) -> Delivery
-        ensures { result ≡ handed_of self to }
+    fn handed(self, state: State) -> Delivery
+        ensures { result ≡ handed_of self state }
     {
-        let buffer = self.buffer;
-        let marks = self.marks;
-        let telling = marks.tell();
-        let told = telling.told;
-        let left = telling.marks;
+        let Telling { told, marks } = self.marks.tell();
         Delivery {
             fate: Fate::Handed(told),
             process: Process {
-                state: to,
-                priority: self.priority,
-                marks: left,
-                buffer,
+                state,
+                marks,
+                ..self
             },
         }
     }
@@ -221,21 +183,15 @@ impl Process {
     fn stored(self, places: usize, message: Message) -> Delivery
         ensures { result ≡ stored_of self places message }
     {
-        let buffer = self.buffer;
-        let put = buffer.put(places, message);
-        if put.stored {
-            let kept = put.buffer;
-            let mut process = self;
-            process.buffer = kept;
-            Delivery {
+        match self.buffer.put(places, message) {
+            Some(buffer) => Delivery {
                 fate: Fate::Stored,
-                process,
-            }
-        } else {
-            Delivery {
+                process: Process { buffer, ..self },
+            },
+            None => Delivery {
                 fate: Fate::Full,
                 process: self,
-            }
+            },
         }
     }
 }

@@ -35,11 +35,12 @@ impl Marks {
         ensures { result ≡ tell_of self }
     {
         if self.overflow {
-            let mut left = self;
-            left.overflow = false;
             return Telling {
                 told: Told::Overflow,
-                marks: left,
+                marks: Marks {
+                    overflow: false,
+                    ..self
+                },
             };
         }
         if self.time {
@@ -56,7 +57,7 @@ impl Marks {
 }
 
 impl Told {
-    // The answer number with which the message is handed over.
+    // The answer number with which the message is handed over. A method, since a `From<Told>` would not say which number it is.
     pub fn number(self) -> u8
         ensures { result ≡ number_of self }
     {

@@ -7,6 +7,7 @@ use native.Mathlib.Omega.{arith}
 use lib.Dec.{eqb, leb}
 use lib.ListN.{length, take, drop}
 use borrow.Author.Tests.{eqb-true, leb-true, le-leb}
+use Rattle.std.specs.Prelude.{Ok, Err}
 use Rattle.common.proofs.Cases.{by_test, both_true, never_both}
 use Rattle.pool.specs.Parts.{part_of, lies, put_of, get_of}
 use Rattle.table.specs.declared.answers.Answer.{Answer}
@@ -14,36 +15,34 @@ use Rattle.table.specs.declared.answers.Answer.TheVariants.{NoUser, NotReady, No
 use Rattle.table.specs.declared.Table.{Table}
 use Rattle.table.specs.Sound.{sound_of}
 use Rattle.table.specs.Words.{negative16}
-use Rattle.calls.specs.declared.Verdict.{Verdict}
-use Rattle.calls.specs.declared.Verdict.TheVariants.{Passed, Refused}
 use Rattle.calls.specs.Effects.{Effect}
 use Rattle.calls.specs.Levels.{process_of}
-use Rattle.calls.specs.Verdicts.{also_of, after, obeyed, by_caller}
+use Rattle.calls.specs.Verdicts.{Checked, also_of, after, obeyed, by_caller}
 use Rattle.calls.proofs.Obeying.{last_passed}
 use Rattle.pooling.specs.Pooling.{same_length, within_pool, access_checks, get_pool_of, put_pool_of, granted, pool_by, buffer_by}
 use Rattle.rtms.specs.Calls.{Call, GETPOOL, PUTPOOL, effect_of, guarded_of}
 use Rattle.rtms.specs.Pools.{lent_of, pooled_by}
 
 -- no check refuses with 0
-unfoldable NeverZero : Verdict → Type 0
-NeverZero Passed = Unit
-NeverZero (Refused answer) = granted answer ≡ false
+unfoldable NeverZero : Checked → Type 0
+NeverZero (Ok tt) = Unit
+NeverZero (Err answer) = granted answer ≡ false
 
-none : NeverZero Passed
+none : NeverZero (Ok tt)
 unfolding NeverZero
 none = tt
 
-more : (v : Verdict) (holds : Bool) (answer : Answer) → NeverZero v → granted answer ≡ false → NeverZero (also_of v holds answer)
+more : (v : Checked) (holds : Bool) (answer : Answer) → NeverZero v → granted answer ≡ false → NeverZero (also_of v holds answer)
 unfolding NeverZero also_of
-more Passed true answer before other = tt
-more Passed false answer before other = other
-more (Refused first) holds answer before other = before
+more (Ok tt) true answer before other = tt
+more (Ok tt) false answer before other = other
+more (Err first) holds answer before other = before
 
 -- so a call that is answered 0 passed all of them
-passed : (v : Verdict) (t : Table) (effect : Effect) → NeverZero v → granted (obeyed v t effect).answer ≡ true → v ≡ Passed
+passed : (v : Checked) (t : Table) (effect : Effect) → NeverZero v → granted (obeyed v t effect).answer ≡ true → v ≡ Ok tt
 unfolding NeverZero obeyed
-passed Passed t effect never zero = refl
-passed (Refused answer) t effect never zero = absurd (never_both zero never)
+passed (Ok tt) t effect never zero = refl
+passed (Err answer) t effect never zero = absurd (never_both zero never)
 
 -- where a call that a pool is lent for is answered 0, enough is lent, and it is answered so for itself
 lent_granted : (call : Call) (t : Table) (pool : List ℕ) → granted (lent_of call t pool).answer ≡ true
@@ -55,14 +54,14 @@ lent_granted call t pool =
     (λ short. rw short (λ zero. absurd (never_both zero refl)))
 
 module _ (t : Table) (caller offset count own : ℕ) (pool : List ℕ) where
-  abbrev verdict : Verdict
+  abbrev verdict : Checked
   verdict = after (by_caller t.config (process_of t caller) caller) (access_checks t.config t.pool caller offset count own)
 
   never_zero : NeverZero verdict
   never_zero = more _ _ PoolOverflow (more _ _ PoolLengthFault (more _ _ DataLengthFault (more _ _ NoPoolInit (more _ _ NotReady (more _ _ NoUser none refl) refl) refl) refl) refl) refl
 
   -- the part of a call whose checks all pass
-  part_lies : leb t.config.pool (length pool) ≡ true → verdict ≡ Passed → lies offset own pool ≡ true
+  part_lies : leb t.config.pool (length pool) ≡ true → verdict ≡ Ok tt → lies offset own pool ≡ true
   unfolding same_length within_pool
   part_lies enough all =
       let to_end = last_passed _ (within_pool t.config offset count) PoolOverflow all in

@@ -13,18 +13,8 @@ use Rattle.table.specs.Sound.{sound_of}
 use Rattle.table.specs.Table.{refused_of}
 use Rattle.calls.specs.Effects.{refuse, outcome_of}
 use Rattle.calls.proofs.Obeying.{outcome_refuse}
-use Rattle.rtms.specs.Calls.{Call, effect_of, guarded_of, answer_of}
+use Rattle.rtms.specs.Calls.{Call, effect_of, guarded_of}
 use Rattle.rtms.specs.Pools.{lent_of, lent_answer}
-
--- a sound table's call is obeyed
-pub guarded_sound : (call : Call) (t : Table) (r : Outcome) → sound_of t ≡ true → r ≡ outcome_of (effect_of call t) → r ≡ answer_of call t
-unfolding guarded_of answer_of
-guarded_sound call t r sound obeyed = rw sound obeyed
-
--- a broken table's is refused
-pub guarded_broken : (call : Call) (t : Table) (r : Outcome) → sound_of t ≡ false → r ≡ refused_of t BadConfig → r ≡ answer_of call t
-unfolding guarded_of answer_of
-guarded_broken call t r broken refused = rw broken (refused ∙ sym (outcome_refuse t BadConfig))
 
 -- ---- the guard before a call that a pool is lent for
 

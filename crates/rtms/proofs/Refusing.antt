@@ -1,6 +1,7 @@
 -- What a refused call leaves. Assumes nothing.
-use mathlib.Core.Path.{◌≡◌, ◌∙◌, refl, sym, ap, subst}
+use mathlib.Core.Path.{◌≡◌, ◌∙◌, refl, sym, ap}
 use mathlib.Core.Bool.{Bool, true, false, not, ◌&&◌, ◌||◌}
+use Rattle.std.specs.Prelude.{Result, Ok, Err}
 use mathlib.Core.List.{List, [], ◌∷◌}
 use mathlib.Core.Logic.{◌⊎◌, inl, inr}
 use Prim.Native.Nat.{ℕ}
@@ -8,6 +9,8 @@ use native.Mathlib.Omega.{arith}
 use lib.Dec.{eqb}
 use borrow.Author.Tests.{eqb-false}
 use lib.ListN.{length}
+use Rattle.std.specs.Prelude.{Ok, Err}
+use Rattle.std.specs.Prelude.{Option, Some, None}
 use Rattle.common.specs.Choice.{pick}
 use Rattle.common.proofs.Cases.{by_test, never_both}
 use Rattle.process.specs.declared.buffers.Message.{Message}
@@ -15,21 +18,22 @@ use Rattle.process.specs.declared.Condition.TheVariants.{Always, Waiting}
 use Rattle.process.specs.declared.marking.Told.{Told}
 use Rattle.process.specs.declared.marking.Told.TheVariants.{Nothing, Overflow, Time}
 use Rattle.inputs.specs.InputSet.{count_of}
-use Rattle.orders.specs.declared.Cancel.{Cancel}
-use Rattle.orders.specs.declared.Cancelled.{Cancelled}
-use Rattle.orders.specs.declared.Cancelled.TheVariants.{BadSender, UnknownReceiver, NoOrder, NotFound, NotTheirs, Done}
+use Rattle.orders.specs.declared.NotCancelled.{NotCancelled}
+use Rattle.orders.specs.declared.NotCancelled.TheVariants.{BadSender, UnknownReceiver, NoOrder, NotFound, NotTheirs}
 use Rattle.orders.specs.declared.Order.{Order}
+use Rattle.orders.specs.Cancel.{cancel_of as orders_cancelled}
 use Rattle.orders.specs.Orders.{accept_of}
+use Rattle.semaphores.specs.declared.Unusable.{Unusable}
 use Rattle.semaphores.specs.declared.Requested.{Requested}
-use Rattle.semaphores.specs.declared.Requested.TheVariants.{Unusable, Held, Waits}
+use Rattle.semaphores.specs.declared.Requested.TheVariants.{Held, Waits}
 use Rattle.semaphores.specs.declared.Semaphores.{Semaphores}
 use Rattle.semaphores.specs.Queues.{leaving_of}
-use Rattle.semaphores.specs.Semaphores.{usable_of, holder_of, holds_of, not_held_of, request_of as requests_of, release_of as releases_of}
+use Rattle.semaphores.proofs.Waiting.{by_leaving}
+use Rattle.semaphores.specs.Semaphores.{requested_in, usable_of, holder_of, holds_of, not_held_of, request_of as requests_of, release_of as releases_of}
 use Rattle.process.specs.Process.{taken_of, is_known}
 use Rattle.table.specs.declared.answers.Answer.{Answer}
-use Rattle.table.specs.declared.answers.Answer.TheVariants.{Ok, NoUser, NotReady, ReceiverUnknown, ReceiverBufferOverflow, BadConfig, Suspended}
-use Rattle.table.specs.declared.configs.Privilege.{Privilege}
-use Rattle.table.specs.declared.configs.Privilege.TheVariants.{Owns, Nobody}
+use Rattle.table.specs.declared.answers.Answer.TheVariants.{NoUser, NotReady, ReceiverUnknown, ReceiverBufferOverflow, BadConfig, Suspended}
+use Rattle.table.specs.declared.configs.Privileged.{Privileged}
 use Rattle.table.specs.declared.Outcome.{Outcome}
 use Rattle.table.specs.declared.Table.{Table}
 use Rattle.table.specs.declared.wakes.Wake.{Wake}
@@ -37,18 +41,16 @@ use Rattle.table.specs.Answers.{number_of, refusal_of}
 use Rattle.table.specs.Configuration.{receiver_of, sender_of, privilege_of, owner_of}
 use Rattle.table.specs.Sound.{sound_of}
 use Rattle.table.specs.Words.{minus_one}
-use Rattle.calls.specs.declared.Verdict.{Verdict}
-use Rattle.calls.specs.declared.Verdict.TheVariants.{Passed, Refused}
 use Rattle.calls.specs.Effects.{Carried, Effect, refuse, refuse_telling, waking, carrying, message}
-use Rattle.calls.specs.Levels.{process_of, with_processes, with_orders}
+use Rattle.calls.specs.Levels.{process_of, with_processes}
 use Rattle.calls.specs.Outcomes.{told_as}
-use Rattle.calls.specs.Verdicts.{check, also_of, after, obeyed, by_caller}
+use Rattle.calls.specs.Verdicts.{Checked, check, also_of, after, obeyed, by_caller}
 use Rattle.posting.specs.Posting.{Posted}
 use Rattle.starting.specs.Starting.{start_of, set_priority_of}
 use Rattle.messages.specs.Sending.{send_posted, sent_by, sent_of, send_of}
 use Rattle.messages.specs.Receiving.{taking_of, receive_of, await_message_of, clear_message_of}
-use Rattle.timers.specs.Timers.{cancel_answer, cancelling, ordered, schedule_of, cancelled_of, cancel_schedule_of, shutdown_of, start_scheduler_of, read_time_of}
-use Rattle.timers.proofs.Cancels.{done_or_same}
+use Rattle.timers.specs.Timers.{cancel_answer, ordered, schedule_of, cancelled_of, cancel_schedule_of, shutdown_of, start_scheduler_of, read_time_of}
+use Rattle.timers.proofs.Cancels.{by_cancel, by_entry}
 use Rattle.interrupts.specs.Interrupts.{enable_of, disable_of, came_of, open_of, awaiting_of, awaiting_by, await_interrupt_of, reset_interrupt_of, opened_of, opened_by, latched_of, event_of}
 use Rattle.holding.specs.Holding.{requested_by, requested_of, request_of, released_of, released_all_of, release_of}
 use Rattle.pooling.specs.Pooling.{init_pool_of, pool_check_of, get_pool_of, put_pool_of}
@@ -64,7 +66,7 @@ unfoldable pub Sorted : Table → Effect → Type 0
 Sorted t effect = (refusal_of effect.answer ≡ false) ⊎ ((effect ≡ refuse t effect.answer) × (special effect.answer ≡ false))
 
 -- 0 and 32 are no refusals, whatever the effect
-sorted_ok : (t : Table) (carried : Carried) (wakes : List Wake) (then : Table) → Sorted t (record { answer = Ok; carried = carried; wakes = wakes; table = then })
+sorted_ok : (t : Table) (carried : Carried) (wakes : List Wake) (then : Table) → Sorted t (record { answer = Answer.Ok; carried = carried; wakes = wakes; table = then })
 unfolding Sorted refusal_of
 sorted_ok t carried wakes then = inl refl
 
@@ -90,58 +92,53 @@ sorted_pick false t e f first second = second
 
 -- ---- the checks before an effect: none refuses with 3 or with 37
 
-unfoldable Ordinary : Verdict → Type 0
-Ordinary Passed = Unit
-Ordinary (Refused answer) = special answer ≡ false
+unfoldable Ordinary : Checked → Type 0
+Ordinary (Ok tt) = Unit
+Ordinary (Err answer) = special answer ≡ false
 
-ordinary_none : Ordinary Passed
+ordinary_none : Ordinary (Ok tt)
 unfolding Ordinary
 ordinary_none = tt
 
 -- one check more that does not
-more : (v : Verdict) (holds : Bool) (answer : Answer) → Ordinary v → special answer ≡ false → Ordinary (also_of v holds answer)
+more : (v : Checked) (holds : Bool) (answer : Answer) → Ordinary v → special answer ≡ false → Ordinary (also_of v holds answer)
 unfolding Ordinary also_of
-more Passed true answer before other = tt
-more Passed false answer before other = other
-more (Refused first) holds answer before other = before
+more (Ok tt) true answer before other = tt
+more (Ok tt) false answer before other = other
+more (Err first) holds answer before other = before
 
-sorted_obeyed : (v : Verdict) (t : Table) (effect : Effect) → Ordinary v → Sorted t effect → Sorted t (obeyed v t effect)
+sorted_obeyed : (v : Checked) (t : Table) (effect : Effect) → Ordinary v → Sorted t effect → Sorted t (obeyed v t effect)
 unfolding obeyed Ordinary
-sorted_obeyed Passed t effect before sorted = sorted
-sorted_obeyed (Refused answer) t effect before sorted = sorted_refuse t answer before
+sorted_obeyed (Ok tt) t effect before sorted = sorted
+sorted_obeyed (Err answer) t effect before sorted = sorted_refuse t answer before
 
 -- nor do the caller's two
-caller : (configured ready : Bool) → Ordinary (also_of (also_of Passed configured NoUser) ready NotReady)
+caller : (configured ready : Bool) → Ordinary (also_of (also_of (Ok tt) configured NoUser) ready NotReady)
 caller configured ready = more _ ready NotReady (more _ configured NoUser ordinary_none refl) refl
 
 -- ---- call by call
 
-cancel_ordinary : (why : Cancelled) → special (cancel_answer why) ≡ false
+cancel_ordinary : (why : NotCancelled) → special (cancel_answer why) ≡ false
 cancel_ordinary BadSender = refl
 cancel_ordinary UnknownReceiver = refl
 cancel_ordinary NoOrder = refl
 cancel_ordinary NotFound = refl
 cancel_ordinary NotTheirs = refl
-cancel_ordinary Done = refl
 
-sorted_cancelled : (t : Table) (c : Cancel) → (c.cancelled ≡ Done) ⊎ (c.orders ≡ t.orders) → Sorted t (cancelling c t)
-sorted_cancelled t c (inl finished) = subst (λ why. Sorted t (waking (cancel_answer why) [] (with_orders t c.orders))) (sym finished) (sorted_ok t _ _ _)
-sorted_cancelled t c (inr same) = subst (λ o. Sorted t (waking (cancel_answer c.cancelled) [] (with_orders t o))) (sym same) (sorted_refuse t _ (cancel_ordinary c.cancelled))
+sorted_requested : (r : Result Requested Unusable) (t : Table) (s : Semaphores) (caller : ℕ) → Sorted t (requested_by r t s caller)
+sorted_requested (Err why) t s caller = sorted_refuse t _ refl
+sorted_requested (Ok Held) t s caller = sorted_ok t _ _ _
+sorted_requested (Ok Waits) t s caller = sorted_suspended t _ _ _
 
-sorted_requested : (r : Requested) (t : Table) (s : Semaphores) (caller : ℕ) → Sorted t (requested_by r t s caller)
-sorted_requested Unusable t s caller = sorted_refuse t _ refl
-sorted_requested Held t s caller = sorted_ok t _ _ _
-sorted_requested Waits t s caller = sorted_suspended t _ _ _
-
-sorted_awaiting : (p : Privilege) (t : Table) (caller : ℕ) → Sorted t (awaiting_by p t caller)
+sorted_awaiting : (p : Option Privileged) (t : Table) (caller : ℕ) → Sorted t (awaiting_by p t caller)
 unfolding awaiting_of
-sorted_awaiting (Owns place) t caller = sorted_pick (eqb (count_of (came_of t place)) 0) t _ _ (sorted_suspended t _ _ _) (sorted_ok t _ _ _)
-sorted_awaiting Nobody t caller = sorted_refuse t _ refl
+sorted_awaiting (Some place) t caller = sorted_pick (eqb (count_of (came_of t place)) 0) t _ _ (sorted_suspended t _ _ _) (sorted_ok t _ _ _)
+sorted_awaiting None t caller = sorted_refuse t _ refl
 
-sorted_opened : (p : Privilege) (t then : Table) (input : ℕ) → Sorted t (opened_by p then input)
+sorted_opened : (p : Option Privileged) (t then : Table) (input : ℕ) → Sorted t (opened_by p then input)
 unfolding opened_of
-sorted_opened (Owns place) t then input = sorted_pick (open_of then input place) t _ _ (sorted_ok t _ _ _) (sorted_ok t _ _ _)
-sorted_opened Nobody t then input = sorted_ok t _ _ _
+sorted_opened (Some place) t then input = sorted_pick (open_of then input place) t _ _ (sorted_ok t _ _ _) (sorted_ok t _ _ _)
+sorted_opened None t then input = sorted_ok t _ _ _
 
 sorted_taking : (t : Table) (caller : ℕ) → Sorted t (taking_of t caller)
 unfolding taking_of
@@ -149,11 +146,14 @@ sorted_taking t caller = sorted_told t (taken_of (process_of t caller)).told _ _
 
 sorted_ordered : (t : Table) (order : Order) → Sorted t (ordered t order)
 unfolding ordered
-sorted_ordered t order = sorted_pick (accept_of t.orders t.config.orders order).accepted t _ _ (sorted_ok t _ _ _) (sorted_refuse t _ refl)
+sorted_ordered t order = by_entry (Sorted t) t (accept_of t.orders t.config.orders order) (λ orders. sorted_ok t _ _ _) (sorted_refuse t _ refl)
 
 sorted_cancel : (t : Table) (sender receiver : ℕ) → Sorted t (cancelled_of t sender receiver)
 unfolding cancelled_of
-sorted_cancel t sender receiver = sorted_cancelled t _ (done_or_same (sender_of sender) (receiver_of t.config receiver) t.orders)
+sorted_cancel t sender receiver =
+    by_cancel (Sorted t) t (orders_cancelled (sender_of sender) (receiver_of t.config receiver) t.orders)
+    (λ left. sorted_ok t _ _ _)
+    (λ why. sorted_refuse t _ (cancel_ordinary why))
 
 sorted_latched : (t : Table) (input : ℕ) → Sorted t (latched_of t input)
 unfolding latched_of
@@ -161,7 +161,7 @@ sorted_latched t input = sorted_opened (owner_of t.config input) t _ input
 
 sorted_request : (t : Table) (caller number : ℕ) → Sorted t (requested_of t caller number)
 unfolding requested_of
-sorted_request t caller number = sorted_requested (requests_of t.semaphores caller number).requested t _ caller
+sorted_request t caller number = sorted_requested (requested_in (requests_of t.semaphores caller number)) t _ caller
 
 sorted_all : (t : Table) (caller : ℕ) → Sorted t (released_all_of t caller)
 unfolding released_all_of
@@ -174,15 +174,15 @@ abbrev pub Overflows : Table → ℕ → Message → Effect → Type 0
 Overflows t receiver m effect = effect ≡ waking ReceiverBufferOverflow (always t receiver m).wakes (with_processes t (always t receiver m).processes)
 
 answered_full : (full : Bool) (t : Table) (wakes : List Wake) (then : Table)
-    → Sorted t (waking (pick full ReceiverBufferOverflow Ok) wakes then) ⊎ (waking (pick full ReceiverBufferOverflow Ok) wakes then ≡ waking ReceiverBufferOverflow wakes then)
+    → Sorted t (waking (pick full ReceiverBufferOverflow Answer.Ok) wakes then) ⊎ (waking (pick full ReceiverBufferOverflow Answer.Ok) wakes then ≡ waking ReceiverBufferOverflow wakes then)
 answered_full true t wakes then = inr refl
 answered_full false t wakes then = inl (sorted_ok t _ _ _)
 
-always_obeyed : (v : Verdict) (t : Table) (receiver : ℕ) (m : Message) → Ordinary v
+always_obeyed : (v : Checked) (t : Table) (receiver : ℕ) (m : Message) → Ordinary v
     → Sorted t (obeyed v t (sent_by Always t (always t receiver m))) ⊎ Overflows t receiver m (obeyed v t (sent_by Always t (always t receiver m)))
 unfolding obeyed Ordinary
-always_obeyed Passed t receiver m before = answered_full (always t receiver m).full t _ _
-always_obeyed (Refused answer) t receiver m before = inl (sorted_refuse t answer before)
+always_obeyed (Ok tt) t receiver m before = answered_full (always t receiver m).full t _ _
+always_obeyed (Err answer) t receiver m before = inl (sorted_refuse t answer before)
 
 ordinary_send : (t : Table) (from receiver : ℕ)
     → Ordinary (after (by_caller t.config (process_of t from) from) (check (is_known (receiver_of t.config receiver)) ReceiverUnknown ∷ []))
@@ -212,10 +212,10 @@ kind_always : (t : Table) (caller receiver : ℕ) (m : Message) (effect : Effect
 kind_always t caller receiver m effect (inl fine) = sorted fine
 kind_always t caller receiver m effect (inr full) = overflow caller receiver m full
 
-kind_obeyed : (v : Verdict) (call : Call) (t : Table) (effect : Effect) → Ordinary v → Kind t call effect → Kind t call (obeyed v t effect)
+kind_obeyed : (v : Checked) (call : Call) (t : Table) (effect : Effect) → Ordinary v → Kind t call effect → Kind t call (obeyed v t effect)
 unfolding obeyed Ordinary
-kind_obeyed Passed call t effect before kind = kind
-kind_obeyed (Refused answer) call t effect before kind = sorted (sorted_refuse t answer before)
+kind_obeyed (Ok tt) call t effect before kind = kind
+kind_obeyed (Err answer) call t effect before kind = sorted (sorted_refuse t answer before)
 
 kind_pick : (b : Bool) (call : Call) (t : Table) (e f : Effect) → Kind t call e → Kind t call f → Kind t call (pick b e f)
 kind_pick true call t e f first second = first
@@ -228,7 +228,7 @@ kind_released t from number =
     by_test (usable_of number)
     (λ usable. by_test (eqb (holder_of t.semaphores number) from)
     (λ own. rw (usable, own)
-    (by_test (leaving_of t.semaphores.queue number).found (λ e. rw e (sorted (sorted_ok t _ _ _))) (λ e. rw e (sorted (sorted_ok t _ _ _)))))
+    (by_leaving (leaving_of t.semaphores.queue number) (λ e. rw e (sorted (sorted_ok t _ _ _))) (λ leaving e. rw e (sorted (sorted_ok t _ _ _)))))
     (λ other. rw (usable, other) (tells from number usable (eqb-false _ _ other) refl)))
     (λ unusable. rw unusable (sorted (sorted_refuse t _ refl)))
 

@@ -1,11 +1,14 @@
 -- Whom a call, an event or ticks wake: each process at most once, and nobody is left out of the twelve places. Assumes nothing.
 use mathlib.Core.Path.{◌≡◌, refl, ap, subst, sym}
 use mathlib.Core.Bool.{Bool, true, false}
+use Rattle.std.specs.Prelude.{Option, Some, None, Result, Ok, Err}
 use mathlib.Core.List.{List, [], ◌∷◌, map}
 use Prim.Native.Nat.{ℕ, ◌≤◌, min}
 use native.Mathlib.Omega.{arith}
 use lib.Dec.{eqb}
 use lib.ListN.{length, take, length-map}
+use Rattle.std.specs.Prelude.{Ok, Err}
+use Rattle.std.specs.Prelude.{Option, Some, None}
 use Rattle.common.specs.Choice.{pick}
 use Rattle.common.specs.Stands.{stands_in, Once}
 use Rattle.common.proofs.Cases.{by_pick}
@@ -17,17 +20,17 @@ use Rattle.process.specs.declared.Target.{Target}
 use Rattle.inputs.specs.InputSet.{count_of}
 use Rattle.orders.specs.declared.Order.{Order}
 use Rattle.orders.specs.Orders.{accept_of}
+use Rattle.semaphores.specs.declared.Unusable.{Unusable}
 use Rattle.semaphores.specs.declared.Requested.{Requested}
-use Rattle.semaphores.specs.declared.Requested.TheVariants.{Unusable, Held, Waits}
-use Rattle.semaphores.specs.declared.Released.{Released}
-use Rattle.semaphores.specs.declared.Released.TheVariants.{NotHolder, Freed, HandedTo}
+use Rattle.semaphores.specs.declared.Requested.TheVariants.{Held, Waits}
+use Rattle.semaphores.specs.declared.NotReleased.{NotReleased}
+use Rattle.semaphores.specs.declared.NotReleased.TheVariants.{NotHolder}
 use Rattle.semaphores.specs.declared.Semaphores.{Semaphores}
-use Rattle.semaphores.specs.Semaphores.{request_of as requests_of, release_of as releases_of, woken_from}
+use Rattle.semaphores.specs.Semaphores.{requested_in, released_in, request_of as requests_of, release_of as releases_of, woken_from}
 use Rattle.semaphores.proofs.Waking.{all_woken, woken_once as releases_once}
 use Rattle.table.specs.declared.answers.Answer.{Answer}
 use Rattle.table.specs.declared.answers.Answer.TheVariants.{BadConfig}
-use Rattle.table.specs.declared.configs.Privilege.{Privilege}
-use Rattle.table.specs.declared.configs.Privilege.TheVariants.{Owns, Nobody}
+use Rattle.table.specs.declared.configs.Privileged.{Privileged}
 use Rattle.table.specs.declared.Table.{Table}
 use Rattle.table.specs.declared.wakes.Wake.{Wake}
 use Rattle.table.specs.Configuration.{receiver_of, privilege_of, owner_of}
@@ -35,17 +38,16 @@ use Rattle.table.specs.Sound.{sound_of}
 use Rattle.table.specs.Wakes.{nobody, wakes_of}
 use Rattle.table.specs.Words.{minus_one}
 use Rattle.table.proofs.Queued.{waiting_once}
-use Rattle.calls.specs.declared.Verdict.{Verdict}
-use Rattle.calls.specs.declared.Verdict.TheVariants.{Passed, Refused}
 use Rattle.calls.specs.Effects.{Carried, Effect, refuse, waking, outcome_of}
 use Rattle.calls.specs.Levels.{process_of}
-use Rattle.calls.specs.Verdicts.{obeyed}
+use Rattle.calls.specs.Verdicts.{Checked, obeyed}
 use Rattle.posting.specs.declared.Origin.TheVariants.{Sent}
 use Rattle.posting.proofs.Waking.{woken_once, woken_few}
 use Rattle.starting.specs.Starting.{start_of, set_priority_of}
 use Rattle.messages.specs.Sending.{letters_of, send_posted, sent_by, sent_of, send_of}
 use Rattle.messages.specs.Receiving.{taking_of, receive_of, await_message_of, clear_message_of}
 use Rattle.timers.specs.Timers.{ordered, schedule_of, cancelled_of, cancel_schedule_of, shutdown_of, start_scheduler_of, read_time_of}
+use Rattle.timers.proofs.Cancels.{by_entry}
 use Rattle.ticking.specs.Ticking.{run_effect, tick_of, ticks_of}
 use Rattle.ticking.proofs.Waking.{tick_once, tick_fits, ticks_once, ticks_fit}
 use Rattle.interrupts.specs.Interrupts.{enable_of, disable_of, came_of, open_of, awaiting_of, awaiting_by, await_interrupt_of, reset_interrupt_of, opened_of, opened_by, latched_of, event_of}
@@ -70,10 +72,10 @@ unfolding Fine Once stands_in
 fine_one t answer carried w then = ((refl, tt), (λ twelve. omega arith))
 
 -- one after checks, whatever they say
-fine_obeyed : (v : Verdict) (t : Table) (effect : Effect) → Fine t effect → Fine t (obeyed v t effect)
+fine_obeyed : (v : Checked) (t : Table) (effect : Effect) → Fine t effect → Fine t (obeyed v t effect)
 unfolding obeyed
-fine_obeyed Passed t effect fine = fine
-fine_obeyed (Refused answer) t effect fine = fine_none t _ _ _
+fine_obeyed (Ok tt) t effect fine = fine
+fine_obeyed (Err answer) t effect fine = fine_none t _ _ _
 
 -- ---- call by call
 
@@ -106,7 +108,7 @@ fine_taking t caller = fine_none t _ _ _
 -- an order that is entered, or finds no place, wakes nobody
 fine_ordered : (t : Table) (order : Order) → Fine t (ordered t order)
 unfolding ordered
-fine_ordered t order = by_pick (Fine t) (accept_of t.orders t.config.orders order).accepted _ _ (fine_none t _ _ _) (fine_none t _ _ _)
+fine_ordered t order = by_entry (Fine t) t (accept_of t.orders t.config.orders order) (λ orders. fine_none t _ _ _) (fine_none t _ _ _)
 
 -- nor do orders that leave
 fine_cancel : (t : Table) (sender receiver : ℕ) → Fine t (cancelled_of t sender receiver)
@@ -114,16 +116,16 @@ unfolding cancelled_of
 fine_cancel t sender receiver = fine_none t _ _ _
 
 -- waiting for an input wakes nobody
-fine_awaiting : (p : Privilege) (t : Table) (caller : ℕ) → Fine t (awaiting_by p t caller)
+fine_awaiting : (p : Option Privileged) (t : Table) (caller : ℕ) → Fine t (awaiting_by p t caller)
 unfolding awaiting_of
-fine_awaiting (Owns place) t caller = by_pick (Fine t) (eqb (count_of (came_of t place)) 0) _ _ (fine_none t _ _ _) (fine_none t _ _ _)
-fine_awaiting Nobody t caller = fine_none t _ _ _
+fine_awaiting (Some place) t caller = by_pick (Fine t) (eqb (count_of (came_of t place)) 0) _ _ (fine_none t _ _ _) (fine_none t _ _ _)
+fine_awaiting None t caller = fine_none t _ _ _
 
 -- an input wakes its owner at most
-fine_opened : (p : Privilege) (t then : Table) (input : ℕ) → Fine t (opened_by p then input)
+fine_opened : (p : Option Privileged) (t then : Table) (input : ℕ) → Fine t (opened_by p then input)
 unfolding opened_of
-fine_opened (Owns place) t then input = by_pick (Fine t) (open_of then input place) _ _ (fine_one t _ _ _ _) (fine_none t _ _ _)
-fine_opened Nobody t then input = fine_none t _ _ _
+fine_opened (Some place) t then input = by_pick (Fine t) (open_of then input place) _ _ (fine_one t _ _ _ _) (fine_none t _ _ _)
+fine_opened None t then input = fine_none t _ _ _
 
 -- and so an event
 fine_latched : (t : Table) (input : ℕ) → Fine t (latched_of t input)
@@ -131,27 +133,27 @@ unfolding latched_of
 fine_latched t input = fine_opened (owner_of t.config input) t _ input
 
 -- none of the ways of a request wakes anybody
-fine_requested : (r : Requested) (t : Table) (s : Semaphores) (caller : ℕ) → Fine t (requested_by r t s caller)
-fine_requested Unusable t s caller = fine_none t _ _ _
-fine_requested Held t s caller = fine_none t _ _ _
-fine_requested Waits t s caller = fine_none t _ _ _
+fine_requested : (r : Result Requested Unusable) (t : Table) (s : Semaphores) (caller : ℕ) → Fine t (requested_by r t s caller)
+fine_requested (Err why) t s caller = fine_none t _ _ _
+fine_requested (Ok Held) t s caller = fine_none t _ _ _
+fine_requested (Ok Waits) t s caller = fine_none t _ _ _
 
 -- so no request does
 fine_request : (t : Table) (caller number : ℕ) → Fine t (requested_of t caller number)
 unfolding requested_of
-fine_request t caller number = fine_requested (requests_of t.semaphores caller number).requested t _ caller
+fine_request t caller number = fine_requested (requested_in (requests_of t.semaphores caller number)) t _ caller
 
 -- each of the ways of a release wakes one at most
-fine_released : (r : Released) (t : Table) (s : Semaphores) → Fine t (released_by r t s)
-fine_released Released.Unusable t s = fine_none t _ _ _
-fine_released (NotHolder level) t s = fine_none t _ _ _
-fine_released Freed t s = fine_none t _ _ _
-fine_released (HandedTo level) t s = fine_one t _ _ _ _
+fine_released : (r : Result (Option ℕ) NotReleased) (t : Table) (s : Semaphores) → Fine t (released_by r t s)
+fine_released (Err NotReleased.Unusable) t s = fine_none t _ _ _
+fine_released (Err (NotHolder level)) t s = fine_none t _ _ _
+fine_released (Ok None) t s = fine_none t _ _ _
+fine_released (Ok (Some level)) t s = fine_one t _ _ _ _
 
 -- so a release of one number does
 fine_release : (t : Table) (caller number : ℕ) → Fine t (released_of t caller number)
 unfolding released_of
-fine_release t caller number = fine_released (releases_of t.semaphores caller number).released t _
+fine_release t caller number = fine_released (released_in (releases_of t.semaphores caller number)) t _
 
 -- levels that are handed a semaphore wake as these levels
 handover_levels : (levels : List ℕ) → map (λ w. w.level) (map handover_wake levels) ≡ levels

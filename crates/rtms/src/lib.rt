@@ -3,6 +3,7 @@
 // the pool of document 02.
 #![tactic(auto)]
 
+mod guard;
 pub mod input_calls;
 pub mod message_calls;
 pub mod pool_calls;

@@ -6,27 +6,20 @@ ghost use Rattle.table.specs.Sound.{sound_of};
 ghost use Rattle.rtms.specs.Calls.{answer_of, INITPOOL, POOLCHECK, GETPOOL, PUTPOOL};
 ghost use Rattle.rtms.specs.Pools.{lent_answer, pooled_by};
 
+use crate::guard::guarded;
 use table::answers::Answer;
 use table::{Outcome, Table, soundness};
 
 pub fn init_pool(table: Table, caller: u8) -> Outcome
     ensures { result ≡ answer_of (INITPOOL caller) table }
 {
-    if soundness::sound(table) {
-        pooling::init_pool(table, caller)
-    } else {
-        table.refused(Answer::BadConfig)
-    }
+    guarded(table, |table| pooling::init_pool(table, caller))
 }
 
 pub fn pool_check(table: Table, caller: u8, stated: u16) -> Outcome
     ensures { result ≡ answer_of (POOLCHECK caller stated) table }
 {
-    if soundness::sound(table) {
-        pooling::pool_check(table, caller, stated)
-    } else {
-        table.refused(Answer::BadConfig)
-    }
+    guarded(table, |table| pooling::pool_check(table, caller, stated))
 }
 
 // The table shows no break, and what is lent for the pool has at least the configured size.

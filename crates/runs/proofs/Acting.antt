@@ -1,6 +1,7 @@
 -- What a step does to semaphores: nothing, or what one request or one release does; and what is seen of it. Assumes nothing.
 use mathlib.Core.Path.{◌≡◌, ◌∙◌, refl, sym, ap, subst}
 use mathlib.Core.Bool.{Bool, true, false, ◌&&◌}
+use Rattle.std.specs.Prelude.{Option, Some, None, Result, Ok, Err}
 use mathlib.Core.List.{List, [], ◌∷◌}
 use Prim.Native.Nat.{ℕ}
 use native.Mathlib.Omega.{arith}
@@ -12,15 +13,17 @@ use Rattle.common.proofs.Cases.{by_test, both_true, never_both}
 use Rattle.process.specs.declared.Process.{Process}
 use Rattle.process.specs.declared.states.State.TheVariants.{Ready, WaitingForSemaphore}
 use Rattle.process.specs.States.{is_of}
+use Rattle.semaphores.specs.declared.Unusable.{Unusable}
 use Rattle.semaphores.specs.declared.Requested.{Requested}
-use Rattle.semaphores.specs.declared.Requested.TheVariants.{Unusable, Held, Waits}
-use Rattle.semaphores.specs.declared.Released.{Released}
-use Rattle.semaphores.specs.declared.Released.TheVariants.{NotHolder, Freed, HandedTo}
+use Rattle.semaphores.specs.declared.Requested.TheVariants.{Held, Waits}
+use Rattle.semaphores.specs.declared.NotReleased.{NotReleased}
+use Rattle.semaphores.specs.declared.NotReleased.TheVariants.{NotHolder}
 use Rattle.semaphores.specs.declared.Semaphores.{Semaphores}
 use Rattle.semaphores.specs.Queues.{list_of, leaving_of}
-use Rattle.semaphores.specs.Semaphores.{usable_of, requested_number, released_number, request_of as requests_of, holds_of, not_held_of, release_of as releases_of, woken_of, released_from, woken_from}
+use Rattle.semaphores.specs.Semaphores.{requested_in, released_in, after_request, after_release, usable_of, requested_number, released_number, request_of as requests_of, holds_of, not_held_of, release_of as releases_of, woken_of, released_from, woken_from}
 use Rattle.semaphores.specs.Turns.{waiting_of, may_request}
 use Rattle.semaphores.proofs.Effects.{by_request}
+use Rattle.semaphores.proofs.Waiting.{by_leaving}
 use Rattle.table.specs.declared.answers.Answer.TheVariants.{NoUser, NotReady}
 use Rattle.table.specs.declared.Table.{Table}
 use Rattle.table.specs.Answers.{number_of}
@@ -76,63 +79,63 @@ by_caller_lem P t caller effect unknown not-ready may =
 
 module _ (t : Table) (caller number : ℕ) where
   -- what a request answers
-  asked_answer : number_of (requested_of t caller number).answer ≡ requested_number (requests_of t.semaphores caller number).requested
+  asked_answer : number_of (requested_of t caller number).answer ≡ requested_number (requested_in (requests_of t.semaphores caller number))
   unfolding requested_of
-  asked_answer = by_ways (requests_of t.semaphores caller number).requested (requests_of t.semaphores caller number).semaphores
+  asked_answer = by_ways (requested_in (requests_of t.semaphores caller number)) (after_request t.semaphores (requests_of t.semaphores caller number))
     where
-      by_ways : (r : Requested) (s : Semaphores) → number_of (requested_by r t s caller).answer ≡ requested_number r
-      by_ways Unusable s = refl
-      by_ways Held s = refl
-      by_ways Waits s = refl
+      by_ways : (r : Result Requested Unusable) (s : Semaphores) → number_of (requested_by r t s caller).answer ≡ requested_number r
+      by_ways (Err why) s = refl
+      by_ways (Ok Held) s = refl
+      by_ways (Ok Waits) s = refl
 
   -- it hands nothing over
   asked_handed : handed_levels (requested_of t caller number).wakes ≡ []
   unfolding requested_of
-  asked_handed = by_ways (requests_of t.semaphores caller number).requested (requests_of t.semaphores caller number).semaphores
+  asked_handed = by_ways (requested_in (requests_of t.semaphores caller number)) (after_request t.semaphores (requests_of t.semaphores caller number))
     where
-      by_ways : (r : Requested) (s : Semaphores) → handed_levels (requested_by r t s caller).wakes ≡ []
-      by_ways Unusable s = handed_none
-      by_ways Held s = handed_none
-      by_ways Waits s = handed_none
+      by_ways : (r : Result Requested Unusable) (s : Semaphores) → handed_levels (requested_by r t s caller).wakes ≡ []
+      by_ways (Err why) s = handed_none
+      by_ways (Ok Held) s = handed_none
+      by_ways (Ok Waits) s = handed_none
 
   -- and leaves such semaphores
-  asked_semaphores : (requested_of t caller number).table.semaphores ≡ (requests_of t.semaphores caller number).semaphores
+  asked_semaphores : (requested_of t caller number).table.semaphores ≡ after_request t.semaphores (requests_of t.semaphores caller number)
   unfolding requested_of
   asked_semaphores =
-      by_request (λ request. (requested_by request.requested t request.semaphores caller).table.semaphores ≡ request.semaphores) t.semaphores caller number
+      by_request (λ request. (requested_by (requested_in request) t (after_request t.semaphores request) caller).table.semaphores ≡ after_request t.semaphores request) t.semaphores caller number
       (λ unusable. refl)
       (λ usable was_free. refl)
       (λ usable own. refl)
       (λ usable not_free not_own. refl)
 
   -- what a release answers
-  pub gave_answer : number_of (released_of t caller number).answer ≡ released_number (releases_of t.semaphores caller number).released
+  pub gave_answer : number_of (released_of t caller number).answer ≡ released_number (released_in (releases_of t.semaphores caller number))
   unfolding released_of
-  gave_answer = by_ways (releases_of t.semaphores caller number).released (releases_of t.semaphores caller number).semaphores
+  gave_answer = by_ways (released_in (releases_of t.semaphores caller number)) (after_release t.semaphores (releases_of t.semaphores caller number))
     where
-      by_ways : (r : Released) (s : Semaphores) → number_of (released_by r t s).answer ≡ released_number r
-      by_ways Released.Unusable s = refl
-      by_ways (NotHolder level) s = refl
-      by_ways Freed s = refl
-      by_ways (HandedTo level) s = refl
+      by_ways : (r : Result (Option ℕ) NotReleased) (s : Semaphores) → number_of (released_by r t s).answer ≡ released_number r
+      by_ways (Err NotReleased.Unusable) s = refl
+      by_ways (Err (NotHolder level)) s = refl
+      by_ways (Ok None) s = refl
+      by_ways (Ok (Some level)) s = refl
 
   -- to whom it hands the semaphore
-  gave_handed : handed_levels (released_of t caller number).wakes ≡ woken_of (releases_of t.semaphores caller number).released
+  gave_handed : handed_levels (released_of t caller number).wakes ≡ woken_of (released_in (releases_of t.semaphores caller number))
   unfolding released_of
-  gave_handed = by_ways (releases_of t.semaphores caller number).released (releases_of t.semaphores caller number).semaphores
+  gave_handed = by_ways (released_in (releases_of t.semaphores caller number)) (after_release t.semaphores (releases_of t.semaphores caller number))
     where
-      by_ways : (r : Released) (s : Semaphores) → handed_levels (released_by r t s).wakes ≡ woken_of r
-      by_ways Released.Unusable s = handed_none
-      by_ways (NotHolder level) s = handed_none
-      by_ways Freed s = handed_none
-      by_ways (HandedTo level) s = handed_all (level ∷ [])
+      by_ways : (r : Result (Option ℕ) NotReleased) (s : Semaphores) → handed_levels (released_by r t s).wakes ≡ woken_of r
+      by_ways (Err NotReleased.Unusable) s = handed_none
+      by_ways (Err (NotHolder level)) s = handed_none
+      by_ways (Ok None) s = handed_none
+      by_ways (Ok (Some level)) s = handed_all (level ∷ [])
 
   -- and the semaphores that it leaves
-  gave_semaphores : (released_of t caller number).table.semaphores ≡ (releases_of t.semaphores caller number).semaphores
+  gave_semaphores : (released_of t caller number).table.semaphores ≡ after_release t.semaphores (releases_of t.semaphores caller number)
   unfolding released_of releases_of not_held_of
   gave_semaphores =
       by_test (holds_of t.semaphores caller number)
-      (λ holds. rw holds (by_test (leaving_of t.semaphores.queue number).found (λ e. rw e) (λ e. rw e)))
+      (λ holds. rw holds (by_leaving (leaving_of t.semaphores.queue number) (λ e. rw e) (λ leaving e. rw e)))
       (λ fails. rw fails (by_test (usable_of number) (λ e. rw e) (λ e. rw e)))
 
 -- ---- what a step is to semaphores
@@ -144,12 +147,12 @@ pub data Deed (act : Act) (answer : ℕ) (handed : List ℕ) (s then : Semaphore
   -- its caller is refused
   refused : eqb answer 0 ≡ false → eqb answer 32 ≡ false → handed ≡ [] → then ≡ s → Deed act answer handed s then
   -- a level that does not wait requests a number
-  asks : (caller asked : ℕ) → may_request s caller ≡ true → act ≡ requests caller asked → answer ≡ requested_number (requests_of s caller asked).requested
-      → handed ≡ [] → then ≡ (requests_of s caller asked).semaphores → Deed act answer handed s then
+  asks : (caller asked : ℕ) → may_request s caller ≡ true → act ≡ requests caller asked → answer ≡ requested_number (requested_in (requests_of s caller asked))
+      → handed ≡ [] → then ≡ after_request s (requests_of s caller asked) → Deed act answer handed s then
   -- a level releases one number
   gives : (caller given : ℕ) → may_request s caller ≡ true → act ≡ releases caller given → eqb given minus_one ≡ false
-      → answer ≡ released_number (releases_of s caller given).released → handed ≡ woken_of (releases_of s caller given).released
-      → then ≡ (releases_of s caller given).semaphores → Deed act answer handed s then
+      → answer ≡ released_number (released_in (releases_of s caller given)) → handed ≡ woken_of (released_in (releases_of s caller given))
+      → then ≡ after_release s (releases_of s caller given) → Deed act answer handed s then
   -- a level releases all that it holds
   gives_all : (caller : ℕ) → may_request s caller ≡ true → act ≡ releases caller minus_one → answer ≡ 0
       → handed ≡ woken_from 96 0 caller s → then ≡ released_from 96 0 caller s → Deed act answer handed s then
@@ -233,14 +236,14 @@ step_deed call t steady = subst (DeedBy call t) (sym (steady_done call t steady)
 -- a request that was let through, has to wait, and leaves such semaphores
 pub record HasToWait (caller number : ℕ) (s then : Semaphores) : Type 0 where
   pub may : may_request s caller ≡ true
-  pub waits : (requests_of s caller number).requested ≡ Waits
-  pub after : then ≡ (requests_of s caller number).semaphores
+  pub waits : requested_in (requests_of s caller number) ≡ Ok Waits
+  pub after : then ≡ after_request s (requests_of s caller number)
 
 -- a request with 32 for its number has to wait
-number_waits : (r : Requested) → requested_number r ≡ 32 → r ≡ Waits
-number_waits Unusable answered = absurd (omega arith)
-number_waits Held answered = absurd (omega arith)
-number_waits Waits answered = refl
+number_waits : (r : Result Requested Unusable) → requested_number r ≡ 32 → r ≡ Ok Waits
+number_waits (Err why) answered = absurd (omega arith)
+number_waits (Ok Held) answered = absurd (omega arith)
+number_waits (Ok Waits) answered = refl
 
 -- and so has a request that is answered 32
 asked_waits : (t : Table) (caller number : ℕ) → Steady t → number_of (request_of t caller number).answer ≡ 32

@@ -11,7 +11,7 @@ use Rattle.common.specs.Stands.{stands_in}
 use Rattle.common.proofs.Cases.{by_test}
 use Rattle.common.proofs.Once.{stands_behind}
 use Rattle.semaphores.specs.declared.Semaphores.{Semaphores}
-use Rattle.semaphores.specs.Semaphores.{usable_of, free, holder_of, waiters_of, held_by, requested_number, request_of}
+use Rattle.semaphores.specs.Semaphores.{requested_in, after_request, usable_of, free, holder_of, waiters_of, held_by, requested_number, request_of}
 use Rattle.semaphores.specs.Turns.{may_request, Orderly}
 use Rattle.semaphores.proofs.Effects.{by_request}
 use Rattle.semaphores.proofs.Numbers.{usable_below}
@@ -89,19 +89,19 @@ module _ (number : ℕ) (s : Semaphores) (orderly : Orderly s) (caller asked : �
 
   -- who holds a number after a request: who held it, or the caller, if it asked for it and is answered 0
   pub request_holds : level < 12
-      → ((eqb caller level && eqb asked number) && eqb (requested_number (request_of s caller asked).requested) 0)
+      → ((eqb caller level && eqb asked number) && eqb (requested_number (requested_in (request_of s caller asked))) 0)
       || (stands_in level (waiters_of s number) && false)
       || (eqb (holder_of s number) level && true)
-      ≡ eqb (holder_of (request_of s caller asked).semaphores number) level
+      ≡ eqb (holder_of (after_request s (request_of s caller asked)) number) level
   request_holds less =
       let asks : Bool = eqb caller level && eqb asked number in
       let waits : Bool = stands_in level (waiters_of s number) in
       let holds : Bool = eqb (holder_of s number) level in
       by_request
-      (λ request. ((eqb caller level && eqb asked number) && eqb (requested_number request.requested) 0)
+      (λ request. ((eqb caller level && eqb asked number) && eqb (requested_number (requested_in request)) 0)
       || (stands_in level (waiters_of s number) && false)
       || (eqb (holder_of s number) level && true)
-      ≡ eqb (holder_of request.semaphores number) level)
+      ≡ eqb (holder_of (after_request s request) number) level)
       s caller asked
       (λ unusable. holds_same asks waits holds)
       (λ usable was_free. holds_also asks waits holds ∙ taken_holds less usable was_free)
@@ -110,14 +110,14 @@ module _ (number : ℕ) (s : Semaphores) (orderly : Orderly s) (caller asked : �
 
   -- who waits for a number after a request: who waited for it, and the caller, if it asked for it and is answered 32
   pub request_waits : may_request s caller ≡ true
-      → ((eqb caller level && eqb asked number) && eqb (requested_number (request_of s caller asked).requested) 32) || (stands_in level (waiters_of s number) && true)
-      ≡ stands_in level (waiters_of (request_of s caller asked).semaphores number)
+      → ((eqb caller level && eqb asked number) && eqb (requested_number (requested_in (request_of s caller asked))) 32) || (stands_in level (waiters_of s number) && true)
+      ≡ stands_in level (waiters_of (after_request s (request_of s caller asked)) number)
   request_waits may =
       let asks : Bool = eqb caller level && eqb asked number in
       let waits : Bool = stands_in level (waiters_of s number) in
       by_request
-      (λ request. ((eqb caller level && eqb asked number) && eqb (requested_number request.requested) 32) || (stands_in level (waiters_of s number) && true)
-      ≡ stands_in level (waiters_of request.semaphores number))
+      (λ request. ((eqb caller level && eqb asked number) && eqb (requested_number (requested_in request)) 32) || (stands_in level (waiters_of s number) && true)
+      ≡ stands_in level (waiters_of (after_request s request) number))
       s caller asked
       (λ unusable. waits_same asks waits)
       (λ usable was_free. rw (held_waiters number s caller asked) (waits_same asks waits))

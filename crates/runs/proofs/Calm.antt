@@ -1,10 +1,12 @@
 -- What the calls do that are neither ticks nor about timer orders: they are not answered 35, and leave the clock and the orders. Assumes nothing.
 use mathlib.Core.Path.{◌≡◌, refl}
 use mathlib.Core.Bool.{Bool}
+use Rattle.std.specs.Prelude.{Option, Some, None, Result, Ok, Err}
 use mathlib.Core.List.{[], ◌∷◌}
 use Prim.Native.Nat.{ℕ}
 use lib.Dec.{eqb}
 use lib.ListN.{length}
+use Rattle.std.specs.Prelude.{Option, Some, None}
 use Rattle.common.proofs.Cases.{by_pick}
 use Rattle.inputs.specs.InputSet.{count_of}
 use Rattle.process.specs.declared.Condition.{Condition}
@@ -13,23 +15,23 @@ use Rattle.process.specs.declared.buffers.Message.{Message}
 use Rattle.process.specs.declared.marking.Told.{Told}
 use Rattle.process.specs.declared.marking.Told.TheVariants.{Nothing, Overflow, Time}
 use Rattle.process.specs.Process.{taken_of}
+use Rattle.semaphores.specs.declared.Unusable.{Unusable}
 use Rattle.semaphores.specs.declared.Requested.{Requested}
-use Rattle.semaphores.specs.declared.Requested.TheVariants.{Unusable, Held, Waits}
-use Rattle.semaphores.specs.declared.Released.{Released}
-use Rattle.semaphores.specs.declared.Released.TheVariants.{NotHolder, Freed, HandedTo}
+use Rattle.semaphores.specs.declared.Requested.TheVariants.{Held, Waits}
+use Rattle.semaphores.specs.declared.NotReleased.{NotReleased}
+use Rattle.semaphores.specs.declared.NotReleased.TheVariants.{NotHolder}
 use Rattle.semaphores.specs.declared.Semaphores.{Semaphores}
-use Rattle.semaphores.specs.Semaphores.{request_of as requests_of, release_of as releases_of}
-use Rattle.table.specs.declared.answers.Answer.TheVariants.{ReceiverBufferOverflow, Ok, NoPoolInit, PoolOverflow, DataLengthFault, PoolLengthFault}
-use Rattle.table.specs.declared.configs.Privilege.{Privilege}
-use Rattle.table.specs.declared.configs.Privilege.TheVariants.{Owns, Nobody}
+use Rattle.semaphores.specs.Semaphores.{requested_in, released_in, request_of as requests_of, release_of as releases_of}
+use Rattle.table.specs.declared.answers.Answer.{Answer}
+use Rattle.table.specs.declared.answers.Answer.TheVariants.{ReceiverBufferOverflow, NoPoolInit, PoolOverflow, DataLengthFault, PoolLengthFault}
+use Rattle.table.specs.declared.configs.Privileged.{Privileged}
 use Rattle.table.specs.declared.Table.{Table}
 use Rattle.table.specs.Configuration.{receiver_of, privilege_of, owner_of}
 use Rattle.table.specs.Words.{minus_one}
-use Rattle.calls.specs.declared.Verdict.{Verdict}
 use Rattle.calls.specs.Effects.{Effect, message, carrying}
 use Rattle.calls.specs.Levels.{process_of}
 use Rattle.calls.specs.Outcomes.{told_as}
-use Rattle.calls.specs.Verdicts.{check, after, obeyed, by_caller}
+use Rattle.calls.specs.Verdicts.{Checked, check, after, obeyed, by_caller}
 use Rattle.starting.specs.Starting.{start_of, set_priority_of}
 use Rattle.posting.specs.Posting.{Posted}
 use Rattle.messages.specs.Sending.{send_posted, sent_by, sent_of, send_of}
@@ -54,7 +56,7 @@ module _ (t : Table) where
   mild effect other same = (other, same)
 
   -- such an effect after checks
-  mild_obeyed : (v : Verdict) (effect : Effect) → Avoids 35 v → Mild t effect → Mild t (obeyed v t effect)
+  mild_obeyed : (v : Checked) (effect : Effect) → Avoids 35 v → Mild t effect → Mild t (obeyed v t effect)
   mild_obeyed v effect avoids holds = by_obeyed (Mild t) 35 v t effect avoids (λ answer other. mild _ other refl) holds
 
   -- the caller's checks do not refuse with 35
@@ -75,32 +77,32 @@ module _ (t : Table) where
   -- a message sent
   mild_sent : (condition : Condition) (posted : Posted) → Mild t (sent_by condition t posted)
   mild_sent Waiting posted = by_pick (Mild t) (eqb (length posted.wakes) 0) _ _ (mild _ refl refl) (mild _ refl refl)
-  mild_sent Always posted = mild _ (by_pick (Unlike 35) posted.full ReceiverBufferOverflow Ok refl refl) refl
+  mild_sent Always posted = mild _ (by_pick (Unlike 35) posted.full ReceiverBufferOverflow Answer.Ok refl refl) refl
 
   -- the wait for inputs
-  mild_awaiting : (owned : Privilege) (caller : ℕ) → Mild t (awaiting_by owned t caller)
+  mild_awaiting : (owned : Option Privileged) (caller : ℕ) → Mild t (awaiting_by owned t caller)
   unfolding awaiting_of
-  mild_awaiting (Owns place) caller = by_pick (Mild t) (eqb (count_of (came_of t place)) 0) _ _ (mild _ refl refl) (mild _ refl refl)
-  mild_awaiting Nobody caller = mild _ refl refl
+  mild_awaiting (Some place) caller = by_pick (Mild t) (eqb (count_of (came_of t place)) 0) _ _ (mild _ refl refl) (mild _ refl refl)
+  mild_awaiting None caller = mild _ refl refl
 
   -- an event that wakes the owner, or none
-  mild_opened : (owner : Privilege) (then : Table) (input : ℕ) → timed_of then ≡ timed_of t → Mild t (opened_by owner then input)
+  mild_opened : (owner : Option Privileged) (then : Table) (input : ℕ) → timed_of then ≡ timed_of t → Mild t (opened_by owner then input)
   unfolding opened_of
-  mild_opened (Owns place) then input same = by_pick (Mild t) (open_of then input place) _ _ (mild _ refl same) (mild _ refl same)
-  mild_opened Nobody then input same = mild _ refl same
+  mild_opened (Some place) then input same = by_pick (Mild t) (open_of then input place) _ _ (mild _ refl same) (mild _ refl same)
+  mild_opened None then input same = mild _ refl same
 
   -- a request, each of its ways
-  mild_requested : (r : Requested) (s : Semaphores) (caller : ℕ) → Mild t (requested_by r t s caller)
-  mild_requested Unusable s caller = mild _ refl refl
-  mild_requested Held s caller = mild _ refl refl
-  mild_requested Waits s caller = mild _ refl refl
+  mild_requested : (r : Result Requested Unusable) (s : Semaphores) (caller : ℕ) → Mild t (requested_by r t s caller)
+  mild_requested (Err why) s caller = mild _ refl refl
+  mild_requested (Ok Held) s caller = mild _ refl refl
+  mild_requested (Ok Waits) s caller = mild _ refl refl
 
   -- a release, each of its ways
-  mild_released : (r : Released) (s : Semaphores) → Mild t (released_by r t s)
-  mild_released Released.Unusable s = mild _ refl refl
-  mild_released (NotHolder level) s = mild _ refl refl
-  mild_released Freed s = mild _ refl refl
-  mild_released (HandedTo level) s = mild _ refl refl
+  mild_released : (r : Result (Option ℕ) NotReleased) (s : Semaphores) → Mild t (released_by r t s)
+  mild_released (Err NotReleased.Unusable) s = mild _ refl refl
+  mild_released (Err (NotHolder level)) s = mild _ refl refl
+  mild_released (Ok None) s = mild _ refl refl
+  mild_released (Ok (Some level)) s = mild _ refl refl
 
   -- a release of all
   mild_released_all : (caller : ℕ) → Mild t (released_all_of t caller)
@@ -160,10 +162,10 @@ kind_of (RESETINT caller input) t = calmly (mild_obeyed t _ _ (avoids_more 35 _ 
 kind_of (EVENT input) t =
     calmly (mild_obeyed t _ _ (avoids_more 35 _ _ _ (avoids_none 35) refl) (mild_opened t (owner_of t.config input) _ input refl)) refl refl
 kind_of (REQSEMA caller asked) t =
-    calmly (mild_obeyed t _ _ (own t caller) (mild_requested t (requests_of t.semaphores caller asked).requested _ caller)) refl refl
+    calmly (mild_obeyed t _ _ (own t caller) (mild_requested t (requested_in (requests_of t.semaphores caller asked)) _ caller)) refl refl
 kind_of (RELSEMA caller given) t =
     calmly (mild_obeyed t _ _ (own t caller) (by_pick (Mild t) (eqb given minus_one) _ _ (mild_released_all t caller)
-    (mild_released t (releases_of t.semaphores caller given).released _))) refl refl
+    (mild_released t (released_in (releases_of t.semaphores caller given)) _))) refl refl
 kind_of (INITPOOL caller) t = calmly (mild_obeyed t _ _ (own t caller) (mild t _ refl refl)) refl refl
 kind_of (POOLCHECK caller stated) t =
     calmly (mild_obeyed t _ _ (avoids_more 35 _ _ _ (avoids_more 35 _ _ _ (own t caller) refl) refl) (mild t _ refl refl)) refl refl

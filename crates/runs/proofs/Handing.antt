@@ -14,7 +14,7 @@ use Rattle.common.proofs.Once.{stands_cases, stands_part, stands_no_part}
 use Rattle.semaphores.specs.declared.queues.Waiter.{Waiter}
 use Rattle.semaphores.specs.declared.Semaphores.{Semaphores}
 use Rattle.semaphores.specs.Queues.{list_of, waits_for, levels_for}
-use Rattle.semaphores.specs.Semaphores.{usable_of, free, waiters_of, holds_of, release_of, woken_of, woken_from}
+use Rattle.semaphores.specs.Semaphores.{released_in, after_release, usable_of, free, waiters_of, holds_of, release_of, woken_of, woken_from}
 use Rattle.semaphores.specs.Turns.{waiting_of, Orderly}
 use Rattle.semaphores.proofs.Effects.{Turn, release_held, release_not_held, passed_own}
 use Rattle.semaphores.proofs.Numbers.{usable_below, holds_usable}
@@ -86,7 +86,7 @@ waits_apart level number other differs s orderly stands = listed_apart level num
 module _ (by number level : ℕ) where
   -- the release of another number wakes none of them
   other_wakes : (other : ℕ) (s : Semaphores) → Orderly s → (other ≡ number → ⊥) → stands_in level (waiters_of s number) ≡ true
-      → stands_in level (woken_of (release_of s by other).released) ≡ false
+      → stands_in level (woken_of (released_in (release_of s by other))) ≡ false
   unfolding stands_in
   other_wakes other s orderly differs waits =
       by_test (holds_of s by other)
@@ -100,10 +100,10 @@ module _ (by number level : ℕ) where
   unfolding woken_from stands_in
   others_wake zero from s orderly others waits = refl
   others_wake (suc many) from s orderly others waits =
-      let after : Semaphores = (release_of s by from).semaphores in
+      let after : Semaphores = after_release s (release_of s by from) in
       let differs : from ≡ number → ⊥ = others from (omega arith) (omega arith) in
       let same : Turn false number s after = release_other by number from s orderly differs in
-      rw (stands_append level (woken_of (release_of s by from).released) (woken_from many (suc from) by after), other_wakes from s orderly differs waits)
+      rw (stands_append level (woken_of (released_in (release_of s by from))) (woken_from many (suc from) by after), other_wakes from s orderly differs waits)
       (others_wake many (suc from) after (release_orderly s by from orderly) (λ other above below. others other (omega arith) (omega arith))
       (rw same.queue waits))
 
@@ -112,9 +112,9 @@ module _ (by number level : ℕ) where
       → stands_in level (woken_from (suc many) number by s) ≡ holds_of s by number && stands_in level (take 1 (waiters_of s number))
   unfolding woken_from stands_in
   here_wakes many s orderly waits =
-      let after : Semaphores = (release_of s by number).semaphores in
+      let after : Semaphores = after_release s (release_of s by number) in
       let behind : (other : ℕ) → suc number ≤ other → other < suc number + many → other ≡ number → ⊥ = (λ other above below same. omega arith) in
-      rw (stands_append level (woken_of (release_of s by number).released) (woken_from many (suc number) by after))
+      rw (stands_append level (woken_of (released_in (release_of s by number))) (woken_from many (suc number) by after))
       (by_test (holds_of s by number)
       (λ holds. rw (release_wakes s by number holds, holds)
       (by_test (stands_in level (take 1 (waiters_of s number)))
@@ -133,14 +133,14 @@ module _ (by number level : ℕ) where
   unfolding woken_from holds_of
   own_wakes zero from s orderly above below waits = absurd (omega arith)
   own_wakes (suc many) from s orderly above below waits =
-      let after : Semaphores = (release_of s by from).semaphores in
+      let after : Semaphores = after_release s (release_of s by from) in
       by_test (eqb from number)
       (λ e. let here : from ≡ number = eqb-true _ _ e in rw here (here_wakes many s orderly waits))
       (λ e. let differs : from ≡ number → ⊥ = eqb-false _ _ e in
       let same : Turn false number s after = release_other by number from s orderly differs in
       let later : stands_in level (woken_from many (suc from) by after) ≡ holds_of after by number && stands_in level (take 1 (waiters_of after number)) =
       own_wakes many (suc from) after (release_orderly s by from orderly) (omega arith) (omega arith) (rw same.queue waits) in
-      rw (stands_append level (woken_of (release_of s by from).released) (woken_from many (suc from) by after), other_wakes from s orderly differs waits)
+      rw (stands_append level (woken_of (released_in (release_of s by from))) (woken_from many (suc from) by after), other_wakes from s orderly differs waits)
       (rw (same.holder, same.queue) at later))
 
   -- who waits for a usable number wakes with a release of all exactly where who releases holds the number, and it is the first
@@ -152,7 +152,7 @@ module _ (by number level : ℕ) where
 
 module _ (by number : ℕ) where
   -- the release of one number by its holder turns the queue of that number, and of no other
-  pub one_turn : (given : ℕ) (s : Semaphores) → Orderly s → holds_of s by given ≡ true → Turn (eqb given number) number s (release_of s by given).semaphores
+  pub one_turn : (given : ℕ) (s : Semaphores) → Orderly s → holds_of s by given ≡ true → Turn (eqb given number) number s (after_release s (release_of s by given))
   one_turn given s orderly holds =
       by_test (eqb given number)
       (λ e. let here : given ≡ number = eqb-true _ _ e in

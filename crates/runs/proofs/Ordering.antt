@@ -7,11 +7,13 @@ use native.Mathlib.Omega.{arith}
 use lib.Dec.{eqb, leb, ltb}
 use lib.ListN.{replicate}
 use borrow.Author.Tests.{eqb-true, eq-eqb, ltb-true}
+use Rattle.std.specs.Prelude.{Result}
 use Rattle.common.specs.Choice.{pick}
 use Rattle.common.proofs.Cases.{by_test, by_pick, never_both, both_true}
 use Rattle.day.specs.TimeOfDay.{forward_of}
-use Rattle.orders.specs.declared.Cancel.{Cancel}
+use Rattle.orders.specs.declared.NotCancelled.{NotCancelled}
 use Rattle.orders.specs.declared.Order.{Order}
+use Rattle.orders.specs.declared.Orders.{Orders}
 use Rattle.orders.specs.Cancel.{is_from, matches_of, how_many_of, removed_of, cancel_of}
 use Rattle.orders.specs.Orders.{accept_of}
 use Rattle.orders.specs.Timer.{timed, Step, ticks, accepts, cancels, stays_after, after_of as steps_after, ticks_of as ticks_among, Spared}
@@ -23,10 +25,9 @@ use Rattle.table.specs.declared.Table.{Table}
 use Rattle.table.specs.Answers.{number_of}
 use Rattle.table.specs.Configuration.{configured_of, receiver_of, sender_of}
 use Rattle.table.specs.Words.{minus_one}
-use Rattle.calls.specs.declared.Verdict.{Verdict}
 use Rattle.calls.specs.Effects.{Effect, refuse}
 use Rattle.calls.specs.Levels.{process_of}
-use Rattle.calls.specs.Verdicts.{obeyed}
+use Rattle.calls.specs.Verdicts.{Checked, obeyed}
 use Rattle.calls.proofs.Keeping.{Steady}
 use Rattle.timers.specs.declared.NewOrder.{NewOrder}
 use Rattle.timers.specs.Timers.{ordered, schedule_of, cancelling, cancelled_of, cancel_schedule_of}
@@ -52,7 +53,7 @@ module _ (step : Step) (t : Table) where
   does_refused answer other = rw other
 
   -- so checks that do not answer 0 may come before it
-  does_obeyed : (v : Verdict) (effect : Effect) → Avoids 0 v → Does step t effect → Does step t (obeyed v t effect)
+  does_obeyed : (v : Checked) (effect : Effect) → Avoids 0 v → Does step t effect → Does step t (obeyed v t effect)
   does_obeyed v effect avoids does = by_obeyed (Does step t) 0 v t effect avoids does_refused does
 
 -- an order that is taken in stands behind all others
@@ -77,7 +78,7 @@ schedule_does t caller new steady =
 removed_does : (sender : Target) (receiver : ℕ) (t : Table) → Does (cancels sender receiver) t (cancelling (removed_of sender receiver t.orders) t)
 unfolding Does removed_of
 removed_does sender receiver t =
-    let does : Cancel → Type 0 = (λ c. Does (cancels sender receiver) t (cancelling c t)) in
+    let does : Result Orders NotCancelled → Type 0 = (λ c. Does (cancels sender receiver) t (cancelling c t)) in
     by_pick does (eqb t.orders.count 0) _ _ refl
     (by_pick does (eqb (how_many_of All receiver t.orders) 0) _ _ refl
     (by_pick does (eqb (how_many_of sender receiver t.orders) 0) _ _ refl (ap (timed t.clock) (standing_without sender receiver t.orders))))

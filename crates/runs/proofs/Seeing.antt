@@ -12,11 +12,12 @@ use Rattle.common.specs.Stands.{stands_in}
 use Rattle.common.proofs.Cases.{by_test, both}
 use Rattle.semaphores.specs.declared.Semaphores.{Semaphores}
 use Rattle.semaphores.specs.Queues.{leaving_of}
-use Rattle.semaphores.specs.Semaphores.{usable_of, holder_of, waiters_of, requested_number, released_number, request_of, holds_of, not_held_of, release_of, woken_of, released_from, woken_from}
+use Rattle.semaphores.specs.Semaphores.{requested_in, released_in, after_request, after_release, usable_of, holder_of, waiters_of, requested_number, released_number, request_of, holds_of, not_held_of, release_of, woken_of, released_from, woken_from}
 use Rattle.semaphores.specs.Turns.{Step, releases as release_step, releases_all, may_request, step_of, after_of, releases_number, releases_of, Orderly}
 use Rattle.semaphores.proofs.Effects.{Turn, turn_same, release_not_held}
 use Rattle.semaphores.proofs.Turns.{release_all}
 use Rattle.semaphores.proofs.Orderly.{requester_level}
+use Rattle.semaphores.proofs.Waiting.{by_leaving}
 use Rattle.semaphores.proofs.Waking.{stands_first, release_wakes, release_wakes_none}
 use Rattle.table.specs.Words.{minus_one}
 use Rattle.runs.specs.Sight.{Act, requests, releases, neither, asks_for, gives_back, Sight, released_by}
@@ -46,8 +47,8 @@ pub record Turned (number : ℕ) (act : Act) (answer : ℕ) (handed : List ℕ) 
 -- what a step is to a number
 pub data Way (number : ℕ) (act : Act) (answer : ℕ) (handed : List ℕ) (s then : Semaphores) : Type 0 where
   turned : Turned number act answer handed s then → Way number act answer handed s then
-  requested : (caller asked : ℕ) → may_request s caller ≡ true → act ≡ requests caller asked → answer ≡ requested_number (request_of s caller asked).requested
-      → handed ≡ [] → then ≡ (request_of s caller asked).semaphores → Way number act answer handed s then
+  requested : (caller asked : ℕ) → may_request s caller ≡ true → act ≡ requests caller asked → answer ≡ requested_number (requested_in (request_of s caller asked))
+      → handed ≡ [] → then ≡ after_request s (request_of s caller asked) → Way number act answer handed s then
 
 -- a call that is not answered 0 is not seen to release
 refused_seen : (number : ℕ) (act : Act) (answer : ℕ) (sight : Sight) → eqb answer 0 ≡ false → released_by number act answer sight ≡ false
@@ -78,14 +79,14 @@ quiet {number} {s = s} none same no_request not-given not_seen = record {
 
 module _ (s : Semaphores) (caller given : ℕ) where
   -- where the caller does not hold the number it is not answered 0, but 15 or 37
-  not_held_number : holds_of s caller given ≡ false → eqb (released_number (release_of s caller given).released) 0 ≡ false
+  not_held_number : holds_of s caller given ≡ false → eqb (released_number (released_in (release_of s caller given))) 0 ≡ false
   unfolding release_of not_held_of
   not_held_number fails = rw fails (by_test (usable_of given) (λ e. rw e) (λ e. rw e))
 
   -- where it does, it is
-  pub held_number : holds_of s caller given ≡ true → released_number (release_of s caller given).released ≡ 0
+  pub held_number : holds_of s caller given ≡ true → released_number (released_in (release_of s caller given)) ≡ 0
   unfolding release_of
-  held_number holds = rw holds (by_test (leaving_of s.queue given).found (λ e. rw e) (λ e. rw e))
+  held_number holds = rw holds (by_leaving (leaving_of s.queue given) (λ e. rw e) (λ leaving e. rw e))
 
   -- who holds a number is its holder
   holds_holder : holds_of s caller given ≡ true → holder_of s given ≡ caller
@@ -139,7 +140,7 @@ module _ (number : ℕ) (s : Semaphores) (orderly : Orderly s) (caller : ℕ) (l
       (λ e. rw e)
 
   -- all together
-  given_turned : Turned number (releases caller given) 0 (take 1 (waiters_of s given)) s (release_of s caller given).semaphores
+  given_turned : Turned number (releases caller given) 0 (take 1 (waiters_of s given)) s (after_release s (release_of s caller given))
   unfolding after_of step_of
   given_turned = record {
     released = eqb given number;
@@ -203,8 +204,8 @@ module _ (number : ℕ) (usable : usable_of number ≡ true) (s : Semaphores) (o
 module _ (number : ℕ) (usable : usable_of number ≡ true) (s : Semaphores) (orderly : Orderly s) where
   -- a release of one number, by its holder or not
   gives_turned : {act : Act} {answer : ℕ} {handed : List ℕ} {then : Semaphores} (caller given : ℕ) → may_request s caller ≡ true → act ≡ releases caller given
-      → eqb given minus_one ≡ false → answer ≡ released_number (release_of s caller given).released → handed ≡ woken_of (release_of s caller given).released
-      → then ≡ (release_of s caller given).semaphores → Turned number act answer handed s then
+      → eqb given minus_one ≡ false → answer ≡ released_number (released_in (release_of s caller given)) → handed ≡ woken_of (released_in (release_of s caller given))
+      → then ≡ after_release s (release_of s caller given) → Turned number act answer handed s then
   gives_turned {act} {answer} {handed} {then} caller given may act-is single answer-is handed-is then_is =
       by_test (holds_of s caller given)
       (λ holds. rw (act-is, answer-is ∙ held_number s caller given holds, handed-is ∙ release_wakes s caller given holds, then_is)

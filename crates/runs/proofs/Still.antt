@@ -5,6 +5,8 @@ use Prim.Native.Nat.{ℕ, zero, suc}
 use native.Mathlib.Omega.{arith}
 use lib.Dec.{eqb}
 use lib.ListN.{length}
+use Rattle.std.specs.Prelude.{Ok, Err}
+use Rattle.std.specs.Prelude.{Option, Some, None}
 use Rattle.common.specs.Keep.{keep_of}
 use Rattle.common.proofs.Cases.{by_pick}
 use Rattle.common.proofs.Keep.{keep_append}
@@ -19,16 +21,13 @@ use Rattle.process.specs.declared.Process.{Process}
 use Rattle.process.specs.declared.Target.{Target}
 use Rattle.process.specs.declared.buffers.Message.{Message}
 use Rattle.table.specs.declared.answers.Answer.{Answer}
-use Rattle.table.specs.declared.configs.Privilege.{Privilege}
-use Rattle.table.specs.declared.configs.Privilege.TheVariants.{Owns, Nobody}
+use Rattle.table.specs.declared.configs.Privileged.{Privileged}
 use Rattle.table.specs.declared.Table.{Table}
 use Rattle.table.specs.declared.wakes.Wake.{Wake}
 use Rattle.table.specs.Configuration.{receiver_of, privilege_of, owner_of}
-use Rattle.calls.specs.declared.Verdict.{Verdict}
-use Rattle.calls.specs.declared.Verdict.TheVariants.{Passed, Refused}
 use Rattle.calls.specs.Effects.{Carried, Effect, waking}
 use Rattle.calls.specs.Levels.{process_of}
-use Rattle.calls.specs.Verdicts.{obeyed}
+use Rattle.calls.specs.Verdicts.{Checked, obeyed}
 use Rattle.posting.specs.declared.Origin.{Origin}
 use Rattle.posting.specs.declared.Origin.TheVariants.{Sent, Timed}
 use Rattle.posting.specs.Posting.{Letter, wake_by, delivery_of, one_of, all_of}
@@ -36,6 +35,7 @@ use Rattle.starting.specs.Starting.{start_of, set_priority_of}
 use Rattle.messages.specs.Sending.{letters_of, send_posted, sent_by, sent_of, send_of}
 use Rattle.messages.specs.Receiving.{taking_of, receive_of, await_message_of, clear_message_of}
 use Rattle.timers.specs.Timers.{ordered, schedule_of, cancelled_of, cancel_schedule_of, shutdown_of, start_scheduler_of, read_time_of}
+use Rattle.timers.proofs.Cancels.{by_entry}
 use Rattle.ticking.specs.Ticking.{Run, letter_of, carried_out, due_now, carrying_out, stopping, passing, tick_at, tick_of, run_effect, ticks_of}
 use Rattle.interrupts.specs.Interrupts.{enable_of, disable_of, came_of, open_of, awaiting_of, awaiting_by, await_interrupt_of, reset_interrupt_of, opened_of, opened_by, latched_of, event_of}
 use Rattle.holding.specs.Holding.{handover_wake}
@@ -93,10 +93,10 @@ unfolding Still
 still_none t answer carried then same = (same, handed_none)
 
 -- after checks too, whatever they say
-still_obeyed : (v : Verdict) (t : Table) (effect : Effect) → Still t effect → Still t (obeyed v t effect)
+still_obeyed : (v : Checked) (t : Table) (effect : Effect) → Still t effect → Still t (obeyed v t effect)
 unfolding obeyed
-still_obeyed Passed t effect still = still
-still_obeyed (Refused answer) t effect still = still_none t _ _ t refl
+still_obeyed (Ok tt) t effect still = still
+still_obeyed (Err answer) t effect still = still_none t _ _ t refl
 
 -- messages that are sent
 still_posted : (t : Table) (target : Target) (condition : Condition) (m : Message) (answer : Answer) (then : Table) → then.semaphores ≡ t.semaphores
@@ -122,19 +122,19 @@ still_taking t caller = still_none t _ _ _ refl
 still_ordered : (t : Table) (order : Order) → Still t (ordered t order)
 unfolding ordered
 still_ordered t order =
-    by_pick (Still t) (accept_of t.orders t.config.orders order).accepted _ _ (still_none t _ _ _ refl) (still_none t _ _ _ refl)
+    by_entry (Still t) t (accept_of t.orders t.config.orders order) (λ orders. still_none t _ _ _ refl) (still_none t _ _ _ refl)
 
 -- waiting for an input
-still_awaiting : (p : Privilege) (t : Table) (caller : ℕ) → Still t (awaiting_by p t caller)
+still_awaiting : (p : Option Privileged) (t : Table) (caller : ℕ) → Still t (awaiting_by p t caller)
 unfolding awaiting_of
-still_awaiting (Owns place) t caller = by_pick (Still t) (eqb (count_of (came_of t place)) 0) _ _ (still_none t _ _ _ refl) (still_none t _ _ _ refl)
-still_awaiting Nobody t caller = still_none t _ _ _ refl
+still_awaiting (Some place) t caller = by_pick (Still t) (eqb (count_of (came_of t place)) 0) _ _ (still_none t _ _ _ refl) (still_none t _ _ _ refl)
+still_awaiting None t caller = still_none t _ _ _ refl
 
 -- an input that wakes its owner
-still_opened : (p : Privilege) (t then : Table) (input : ℕ) → then.semaphores ≡ t.semaphores → Still t (opened_by p then input)
+still_opened : (p : Option Privileged) (t then : Table) (input : ℕ) → then.semaphores ≡ t.semaphores → Still t (opened_by p then input)
 unfolding opened_of Still handed_levels keep_of
-still_opened (Owns place) t then input same = by_pick (Still t) (open_of then input place) _ _ (same, refl) (same, refl)
-still_opened Nobody t then input same = (same, refl)
+still_opened (Some place) t then input same = by_pick (Still t) (open_of then input place) _ _ (same, refl) (same, refl)
+still_opened None t then input same = (same, refl)
 
 -- a tick
 still_tick : (t : Table) → Still t (run_effect (tick_of t))

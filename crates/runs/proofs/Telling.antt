@@ -11,7 +11,7 @@ use Rattle.common.specs.Choice.{pick}
 use Rattle.common.proofs.Cases.{by_test}
 use Rattle.common.proofs.Every.{every_below_lem}
 use Rattle.semaphores.specs.declared.Semaphores.{Semaphores}
-use Rattle.semaphores.specs.Semaphores.{usable_of, free, holder_of, holds_of, not_held_of, release_of as releases_of, released_number}
+use Rattle.semaphores.specs.Semaphores.{released_in, usable_of, free, holder_of, holds_of, not_held_of, release_of as releases_of, released_number}
 use Rattle.semaphores.proofs.Numbers.{usable_below}
 use Rattle.table.specs.declared.Table.{Table}
 use Rattle.table.specs.Answers.{number_of}
@@ -84,7 +84,7 @@ told_as_seen c good steps call answered =
 
 -- of a usable number, by its holder and by another
 module _ (s : Semaphores) (caller number : ℕ) (usable : usable_of number ≡ true) where
-  release_number : released_number (releases_of s caller number).released ≡ pick (eqb (holder_of s number) caller) 0 37
+  release_number : released_number (released_in (releases_of s caller number)) ≡ pick (eqb (holder_of s number) caller) 0 37
   unfolding holds_of
   release_number =
       by_test (eqb (holder_of s number) caller)

@@ -2,6 +2,7 @@
 -- k-th release of it after that, and not earlier. Assumes nothing.
 use mathlib.Core.Path.{◌≡◌, ◌∙◌, refl, sym, ap, subst}
 use mathlib.Core.Bool.{Bool, true, ◌&&◌}
+use Rattle.std.specs.Prelude.{Ok}
 use mathlib.Core.List.{List, [], ◌∷◌, ◌++◌}
 use Prim.Native.Nat.{ℕ, ◌+◌, ◌-◌, ◌<◌, ◌≤◌}
 use native.Mathlib.Omega.{arith}
@@ -17,7 +18,7 @@ use Rattle.common.proofs.Once.{stands_at, stands_part}
 use Rattle.semaphores.specs.declared.Semaphores.{Semaphores}
 use Rattle.semaphores.specs.declared.Requested.TheVariants as Requested
 use Rattle.semaphores.specs.Queues.{list_of}
-use Rattle.semaphores.specs.Semaphores.{usable_of, free, holder_of, waiters_of, request_of}
+use Rattle.semaphores.specs.Semaphores.{requested_in, usable_of, free, holder_of, waiters_of, request_of}
 use Rattle.semaphores.specs.Turns.{Step, requests as request_step, waiting_of, step_of, after_of as steps_after, releases_number, releases_of, Orderly, WaitsAt}
 use Rattle.semaphores.proofs.Effects.{by_request}
 use Rattle.semaphores.proofs.Turns.{joins_last, turn_waits}
@@ -133,9 +134,9 @@ after_one [] x t = refl
 after_one (call ∷ steps) x t = after_one steps x (leaves call t)
 
 -- a request that has to wait is of a usable number
-waits_usable : (s : Semaphores) (level number : ℕ) → (request_of s level number).requested ≡ Requested.Waits → usable_of number ≡ true
+waits_usable : (s : Semaphores) (level number : ℕ) → requested_in (request_of s level number) ≡ Ok Requested.Waits → usable_of number ≡ true
 waits_usable s level number =
-    by_request (λ request. request.requested ≡ Requested.Waits → usable_of number ≡ true) s level number
+    by_request (λ request. requested_in request ≡ Ok Requested.Waits → usable_of number ≡ true) s level number
     (λ unusable waits. let z : ◌≡◌ {A = ℕ} 0 1 = cc in absurd (omega arith))
     (λ usable was_free waits. usable)
     (λ usable own waits. usable)

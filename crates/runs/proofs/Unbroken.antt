@@ -5,8 +5,8 @@ use Prim.Native.Nat.{ℕ, zero, suc, ◌+◌}
 use lib.ListN.{replicate}
 use borrow.Author.Tests.{eqb-false}
 use Rattle.common.proofs.Cases.{by_pick}
-use Rattle.orders.specs.declared.Cancelled.{Cancelled}
-use Rattle.orders.specs.declared.Cancelled.TheVariants.{BadSender, UnknownReceiver, NoOrder, NotFound, NotTheirs, Done}
+use Rattle.orders.specs.declared.NotCancelled.{NotCancelled}
+use Rattle.orders.specs.declared.NotCancelled.TheVariants.{BadSender, UnknownReceiver, NoOrder, NotFound, NotTheirs}
 use Rattle.orders.specs.declared.Order.{Order}
 use Rattle.orders.specs.Cancel.{cancel_of as orders_cancelled}
 use Rattle.orders.specs.Orders.{accept_of}
@@ -18,6 +18,7 @@ use Rattle.calls.specs.Levels.{process_of}
 use Rattle.calls.proofs.Keeping.{Steady}
 use Rattle.timers.specs.declared.NewOrder.{NewOrder}
 use Rattle.timers.specs.Timers.{ordered, schedule_of, cancel_answer, cancelled_of, cancel_schedule_of}
+use Rattle.timers.proofs.Cancels.{by_cancel, by_entry}
 use Rattle.ticking.specs.Ticking.{tick_of, ticks_of}
 use Rattle.ticking.proofs.Keeping.{tick_keeps}
 use Rattle.rtms.specs.Calls.{Call, TICK, TICKS, effect_of, done_by}
@@ -35,7 +36,7 @@ Not35 effect = Unlike 35 effect.answer
 -- an order that is taken in, or for which there is no place, is not answered 35
 ordered_not_35 : (t : Table) (x : Order) → Not35 (ordered t x)
 unfolding ordered Not35
-ordered_not_35 t x = by_pick Not35 (accept_of t.orders t.config.orders x).accepted _ _ refl refl
+ordered_not_35 t x = by_entry Not35 t (accept_of t.orders t.config.orders x) (λ orders. refl) refl
 
 -- SCHEDULE is not answered 35
 schedule_not_35 : (t : Table) (caller : ℕ) (new : NewOrder) → Not35 (schedule_of t caller new)
@@ -47,14 +48,13 @@ schedule_not_35 t caller new =
     (λ answer other. other)
     (ordered_not_35 t _)
 
--- nor is a cancel, whatever it came to
-cancelled_not_35 : (why : Cancelled) → Unlike 35 (cancel_answer why)
+-- nor is a cancel, whatever it is refused for
+cancelled_not_35 : (why : NotCancelled) → Unlike 35 (cancel_answer why)
 cancelled_not_35 BadSender = refl
 cancelled_not_35 UnknownReceiver = refl
 cancelled_not_35 NoOrder = refl
 cancelled_not_35 NotFound = refl
 cancelled_not_35 NotTheirs = refl
-cancelled_not_35 Done = refl
 
 -- nor is CANCELSCHEDULE
 cancel_not_35 : (t : Table) (caller sender receiver : ℕ) → Not35 (cancel_schedule_of t caller sender receiver)
@@ -63,7 +63,7 @@ cancel_not_35 t caller sender receiver =
     by_obeyed Not35 35 _ t _
     (avoids_caller 35 t.config (process_of t caller) caller refl refl)
     (λ answer other. other)
-    (cancelled_not_35 (orders_cancelled (sender_of sender) (receiver_of t.config receiver) t.orders).cancelled)
+    (by_cancel Not35 t (orders_cancelled (sender_of sender) (receiver_of t.config receiver) t.orders) (λ left. refl) cancelled_not_35)
 
 -- nor is any call, whichever kind it is
 kind_not_35 : (call : Call) (t : Table) → Kind t call → Not35 (effect_of call t)

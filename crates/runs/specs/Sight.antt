@@ -76,8 +76,8 @@ gives_up number level x = gives_back number level (act_of x.call) && eqb x.answe
 
 -- "a handover's wake"
 abbrev pub by_handover : Woken → Bool
-by_handover (ByMessage told) = false
-by_handover ByEvent = false
+by_handover (ByMessage told m) = false
+by_handover (ByEvent set) = false
 by_handover ByHandover = true
 
 -- the levels that a handover wakes

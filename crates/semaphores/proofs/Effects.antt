@@ -1,6 +1,7 @@
 -- What a request and a release do to the holders and to the queue, by cases. Assumes nothing.
 use mathlib.Core.Path.{◌≡◌, ◌∙◌, refl, ap, sym}
 use mathlib.Core.Bool.{Bool, true, false}
+use Rattle.std.specs.Prelude.{Result, Ok, Err}
 use mathlib.Core.List.{List, [], ◌∷◌}
 use Prim.Native.Nat.{ℕ, ◌<◌, ◌≤◌}
 use native.Mathlib.Omega.{arith}
@@ -13,20 +14,21 @@ use Rattle.common.proofs.Cases.{by_test}
 use Rattle.common.proofs.Packing.{length_packed}
 use Rattle.common.proofs.Parts.{part_length}
 use Rattle.semaphores.specs.declared.Semaphores.{Semaphores}
+use Rattle.semaphores.specs.declared.Unusable.{Unusable}
 use Rattle.semaphores.specs.declared.Request.{Request}
-use Rattle.semaphores.specs.declared.Requested.TheVariants.{Unusable, Held, Waits}
+use Rattle.semaphores.specs.declared.Requested.TheVariants.{Held, Waits}
 use Rattle.semaphores.specs.Queues.{nobody, list_of, queued, push_of, without_first, leaving_as, leaving_of, levels_for}
-use Rattle.semaphores.specs.Semaphores.{usable_of, free, semaphores_of, holder_of, waiters_of, held_by, waiter, request_of, handed_on, holds_of, release_of}
+use Rattle.semaphores.specs.Semaphores.{after_release, usable_of, free, semaphores_of, holder_of, waiters_of, held_by, waiter, request_of, handed_on, holds_of, release_of}
 use Rattle.semaphores.specs.Turns.{Orderly}
 use Rattle.semaphores.proofs.Waiting.{list_short, list_queued, part_without, levels_without, levels_other, without_none}
 
 -- the four ways of a request: the number is not usable, is free, is the level's own already, or is another's
-pub by_request : (P : Request → Type 0) (s : Semaphores) (level number : ℕ)
-    → (usable_of number ≡ false → P (record { requested = Unusable; semaphores = s }))
-    → (usable_of number ≡ true → holder_of s number ≡ free → P (record { requested = Held; semaphores = held_by s number level }))
-    → (usable_of number ≡ true → holder_of s number ≡ level → P (record { requested = Held; semaphores = s }))
+pub by_request : (P : Result Request Unusable → Type 0) (s : Semaphores) (level number : ℕ)
+    → (usable_of number ≡ false → P (Err (record {})))
+    → (usable_of number ≡ true → holder_of s number ≡ free → P (Ok (record { requested = Held; semaphores = held_by s number level })))
+    → (usable_of number ≡ true → holder_of s number ≡ level → P (Ok (record { requested = Held; semaphores = s })))
     → (usable_of number ≡ true → (holder_of s number ≡ free → ⊥) → (holder_of s number ≡ level → ⊥)
-    → P (record { requested = Waits; semaphores = semaphores_of s.holders (push_of s.queue (waiter level number)) }))
+    → P (Ok (record { requested = Waits; semaphores = semaphores_of s.holders (push_of s.queue (waiter level number)) })))
     → P (request_of s level number)
 unfolding request_of
 by_request P s level number unusable taken own waits =
@@ -65,12 +67,12 @@ handed_passed s number orderly (level ∷ levels) e = record {
 }
 
 -- so it is where the level holds the number
-pub release_held : (s : Semaphores) (level number : ℕ) → Orderly s → holds_of s level number ≡ true → Passed number s (release_of s level number).semaphores
+pub release_held : (s : Semaphores) (level number : ℕ) → Orderly s → holds_of s level number ≡ true → Passed number s (after_release s (release_of s level number))
 unfolding release_of leaving_of waiters_of
 release_held s level number orderly holds = rw holds (handed_passed s number orderly (levels_for number (list_of s.queue)) refl)
 
 -- and where it does not, nothing changes
-pub release_not_held : (s : Semaphores) (level number : ℕ) → holds_of s level number ≡ false → (release_of s level number).semaphores ≡ s
+pub release_not_held : (s : Semaphores) (level number : ℕ) → holds_of s level number ≡ false → after_release s (release_of s level number) ≡ s
 unfolding release_of
 release_not_held s level number holds = rw holds
 

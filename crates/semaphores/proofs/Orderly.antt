@@ -17,7 +17,7 @@ use Rattle.common.proofs.Parts.{Part, part_map}
 use Rattle.common.proofs.Once.{stands_cases, stands_here, stands_behind, stands_part, once_part, once_behind, once_below}
 use Rattle.semaphores.specs.declared.Semaphores.{Semaphores}
 use Rattle.semaphores.specs.Queues.{nobody, list_of, queued, empty_of, push_of, levels_for}
-use Rattle.semaphores.specs.Semaphores.{usable_of, free, semaphores_of, fresh_of, holder_of, waiters_of, held_by, waiter, request_of, holds_of, release_of, released_from}
+use Rattle.semaphores.specs.Semaphores.{after_request, after_release, usable_of, free, semaphores_of, fresh_of, holder_of, waiters_of, held_by, waiter, request_of, holds_of, release_of, released_from}
 use Rattle.semaphores.specs.Turns.{waiting_of, Step, requests, releases, releases_all, may_request, step_of, after_of, Orderly}
 use Rattle.semaphores.proofs.Numbers.{usable_below, holds_usable}
 use Rattle.semaphores.proofs.Waiting.{list_length, list_push, list_queued, part_without, levels_behind, levels_part}
@@ -88,7 +88,7 @@ passed_orderly number s t orderly usable passed =
     }
 
 -- and so they do after a call that releases, or is refused
-pub release_orderly : (s : Semaphores) (level number : ℕ) → Orderly s → Orderly (release_of s level number).semaphores
+pub release_orderly : (s : Semaphores) (level number : ℕ) → Orderly s → Orderly (after_release s (release_of s level number))
 release_orderly s level number orderly =
     by_test (holds_of s level number)
     (λ e. passed_orderly number s _ orderly (holds_usable s level number e) (release_held s level number orderly e))
@@ -184,9 +184,9 @@ held_orderly s level number orderly was_free = record {
 }
 
 -- after each of the four ways of a request they stand orderly
-request_orderly : (s : Semaphores) (level number : ℕ) → Orderly s → may_request s level ≡ true → Orderly (request_of s level number).semaphores
+request_orderly : (s : Semaphores) (level number : ℕ) → Orderly s → may_request s level ≡ true → Orderly (after_request s (request_of s level number))
 request_orderly s level number orderly lets =
-    by_request (λ request. Orderly request.semaphores) s level number
+    by_request (λ request. Orderly (after_request s request)) s level number
     (λ unusable. orderly)
     (λ usable was_free. held_orderly s level number orderly was_free)
     (λ usable own. orderly)

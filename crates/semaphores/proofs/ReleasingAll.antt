@@ -7,7 +7,7 @@ use Rattle.common.specs.Fold.{fold_of}
 use Rattle.semaphores.specs.declared.Semaphores.{Semaphores}
 use Rattle.semaphores.specs.declared.ReleaseAll.{ReleaseAll}
 use Rattle.semaphores.specs.Queues.{with_of, none_of}
-use Rattle.semaphores.specs.Semaphores.{usable_of, holder_of, holds_of, woken_of, not_held_of, release_of, also_of, released_from, woken_from, release_all_of}
+use Rattle.semaphores.specs.Semaphores.{released_in, usable_of, holder_of, holds_of, woken_of, not_held_of, release_of, also_of, released_from, woken_from, release_all_of}
 use Rattle.common.proofs.Cases.{by_test}
 use Rattle.common.proofs.Fold.{fold_append}
 use Rattle.semaphores.proofs.Waiting.{with_list}
@@ -33,7 +33,7 @@ finished_none number level all = refl
 -- one turn of the loop leaves one number less
 pub finished_turn : (many number level : ℕ) (all : ReleaseAll) → finished_of (suc many) number level all ≡ finished_of many (suc number) level (also_of all level number)
 unfolding finished_of also_of woken_from released_from
-finished_turn many number level all = rw (fold_append with_of all.woken (woken_of (release_of all.semaphores level number).released))
+finished_turn many number level all = rw (fold_append with_of all.woken (woken_of (released_in (release_of all.semaphores level number))))
 
 -- with all of them left, and nobody woken yet, it is the release of all
 pub finished_all : (level : ℕ) (s : Semaphores) → finished_of 96 0 level (record { woken = none_of; semaphores = s }) ≡ release_all_of s level

@@ -3,6 +3,7 @@
 -- number, so whoever is written there takes the place of the holder before. Assumes nothing.
 use mathlib.Core.Path.{◌≡◌, ◌∙◌, refl, ap, sym}
 use mathlib.Core.Bool.{Bool, true, false}
+use Rattle.std.specs.Prelude.{Ok}
 use mathlib.Core.List.{List, [], ◌∷◌, ◌++◌, append-nil}
 use Prim.Native.Nat.{ℕ, zero, suc, ◌+◌, ◌-◌, ◌<◌, ◌≤◌}
 use native.Mathlib.Omega.{arith}
@@ -16,7 +17,7 @@ use Rattle.common.proofs.Lists.{get_or_within}
 use Rattle.common.proofs.Once.{stands_at}
 use Rattle.semaphores.specs.declared.Semaphores.{Semaphores}
 use Rattle.semaphores.specs.declared.Requested.TheVariants.{Waits}
-use Rattle.semaphores.specs.Semaphores.{free, holder_of, waiters_of, request_of, holds_of, release_of, released_from}
+use Rattle.semaphores.specs.Semaphores.{requested_in, after_request, after_release, free, holder_of, waiters_of, request_of, holds_of, release_of, released_from}
 use Rattle.semaphores.specs.Turns.{Step, requests, releases, releases_all, may_request, step_of, after_of, releases_number, releases_of, joined_by, joins_of, Orderly, OneStep, WaitsAt, BeginsToWait, TurnComes}
 use Rattle.semaphores.proofs.Numbers.{usable_below, holds_usable}
 use Rattle.semaphores.proofs.Effects.{by_request, release_held, release_not_held, Turn, turn_same, turn_then, turn_before, passed_own, passed_other}
@@ -26,14 +27,14 @@ use Rattle.semaphores.proofs.Orderly.{joined_waiters, release_orderly, step_orde
 
 module _ (level number : ℕ) where
   -- a release of the number turns its queue, if the level holds it
-  release_own : (s : Semaphores) → Orderly s → Turn (holds_of s level number) number s (release_of s level number).semaphores
+  release_own : (s : Semaphores) → Orderly s → Turn (holds_of s level number) number s (after_release s (release_of s level number))
   release_own s orderly =
       by_test (holds_of s level number)
       (λ e. rw e (passed_own (rw orderly.numbers (usable_below number (holds_usable s level number e))) (release_held s level number orderly e)))
       (λ e. rw (e, release_not_held s level number e) (turn_same number s))
 
   -- a release of another number changes neither its holder nor its queue
-  pub release_other : (other : ℕ) (s : Semaphores) → Orderly s → (other ≡ number → ⊥) → Turn false number s (release_of s level other).semaphores
+  pub release_other : (other : ℕ) (s : Semaphores) → Orderly s → (other ≡ number → ⊥) → Turn false number s (after_release s (release_of s level other))
   release_other other s orderly differs =
       by_test (holds_of s level other)
       (λ e. passed_other differs (release_held s level other orderly e))
@@ -58,7 +59,7 @@ module _ (level number : ℕ) where
   unfolding released_from
   releases_own zero from s orderly above below = absurd (omega arith)
   releases_own (suc many) from s orderly above below =
-      let after : Semaphores = (release_of s level from).semaphores in
+      let after : Semaphores = after_release s (release_of s level from) in
       let later : Orderly after = release_orderly s level from orderly in
       by_test (eqb from number)
       (λ e. let here : from ≡ number = eqb-true _ _ e in
@@ -86,7 +87,7 @@ module _ (number level other : ℕ) (s : Semaphores) (orderly : Orderly s) where
   request_queue =
       by_test (may_request s level)
       (λ e. rw e
-      (by_request (λ request. waiters_of request.semaphores number ≡ waiters_of s number ++ joined_by request.requested (pick (eqb other number) (level ∷ []) [])) s level other
+      (by_request (λ request. waiters_of (after_request s request) number ≡ waiters_of s number ++ joined_by (requested_in request) (pick (eqb other number) (level ∷ []) [])) s level other
       (λ unusable. sym (append-nil _))
       (λ usable was_free. sym (append-nil _))
       (λ usable own. sym (append-nil _))
@@ -99,7 +100,7 @@ module _ (number level other : ℕ) (s : Semaphores) (orderly : Orderly s) where
   request_holder not_free =
       by_test (may_request s level)
       (λ e. rw e
-      (by_request (λ request. holder_of request.semaphores number ≡ holder_of s number) s level other
+      (by_request (λ request. holder_of (after_request s request) number ≡ holder_of s number) s level other
       (λ unusable. refl)
       (λ usable was_free. get_or-set_other s.holders other number level 0 (λ same. not_free (rw same was_free)))
       (λ usable own. refl)
@@ -130,7 +131,7 @@ one_step number (releases level other) s orderly =
 one_step number (releases_all level) s orderly = turn_step number (releases_all level) s refl (release_all level number s orderly)
 
 -- who has to wait joins its queue as the last
-pub joins_last : (s : Semaphores) (level number : ℕ) → Orderly s → may_request s level ≡ true → (request_of s level number).requested ≡ Waits
+pub joins_last : (s : Semaphores) (level number : ℕ) → Orderly s → may_request s level ≡ true → requested_in (request_of s level number) ≡ Ok Waits
     → waiters_of (step_of (requests level number) s) number ≡ waiters_of s number ++ (level ∷ [])
 unfolding joins_of
 joins_last s level number orderly lets waits = request_queue number level number s orderly ∙ rw (lets, waits, eq-eqb number number refl)

@@ -1,6 +1,8 @@
 -- A queue, seen as the list of those that wait: what goes in goes behind the others, and the first of a number comes out. Assumes nothing.
 use mathlib.Core.Path.{◌≡◌, ◌∙◌, refl, ap, sym}
-use mathlib.Core.Bool.{true, false}
+use mathlib.Core.Bool.{Bool, true, false, not, ◌||◌}
+use Rattle.std.specs.Prelude.{Option, Some, None}
+use Rattle.std.specs.Option.{is_some}
 use mathlib.Core.List.{List, [], ◌∷◌, ◌++◌, map, append-nil, map-append}
 use Prim.Native.Nat.{ℕ, suc, ◌+◌, ◌<◌, ◌≤◌, min}
 use native.Mathlib.Omega.{arith}
@@ -10,13 +12,14 @@ use borrow.Author.Tests.{eqb-true, ne_eqb, lt-ltb}
 use Rattle.common.specs.Choice.{pick}
 use Rattle.common.specs.Fold.{fold_of}
 use Rattle.common.specs.Keep.{keep_of}
-use Rattle.common.proofs.Cases.{by_test}
+use Rattle.common.proofs.Cases.{by_test, never_both}
 use Rattle.common.proofs.Keep.{keep_append}
 use Rattle.common.proofs.Packing.{take_packed, packed_behind}
 use Rattle.common.proofs.Parts.{Part, nothing, part_map, part_keep, part_first}
 use Rattle.semaphores.specs.declared.queues.Waiter.{Waiter}
 use Rattle.semaphores.specs.declared.queues.Queue.{Queue}
-use Rattle.semaphores.specs.Queues.{nobody, list_of, queued, empty_of, push_of, waits_for, levels_for, without_first, leaving_as, passed_of, leaving_of, levelled, with_of, none_of}
+use Rattle.semaphores.specs.declared.queues.Leaving.{Leaving}
+use Rattle.semaphores.specs.Queues.{nobody, list_of, queued, push_of, waits_for, levels_for, without_first, leaving_as, levelled, with_of, none_of}
 
 -- a waiter goes behind the list that lies in a queue
 pub push_queued : (l : List Waiter) (w : Waiter) → push_of (queued l) w ≡ queued (l ++ (w ∷ []))
@@ -104,27 +107,58 @@ module _ (number : ℕ) where
 
 -- ---- the loop that looks for the first of a number
 
--- once it is found, all others stay
-passed_found : (number level : ℕ) (m l : List Waiter)
-    → fold_of (passed_of number) (record { found = true; level = level; queue = queued m }) l ≡ record { found = true; level = level; queue = queued (m ++ l) }
-unfolding passed_of
-passed_found number level m [] = rw append-nil
-passed_found number level m (w ∷ l) = rw push_queued (passed_found number level (m ++ (w ∷ [])) l ∙ rw append_snoc)
+-- the first of a list of levels, if there is one
+abbrev pub first_of : List ℕ → Option ℕ
+first_of [] = None
+first_of (level ∷ others) = Some level
 
--- until it is found, they stay too
-passed_all : (number : ℕ) (m l : List Waiter)
-    → fold_of (passed_of number) (record { found = false; level = 0; queue = queued m }) l ≡ leaving_as (levels_for number l) (queued (m ++ without_first number l))
-unfolding passed_of levels_for keep_of without_first
-passed_all number m [] = rw append-nil
-passed_all number m (w ∷ l) =
-    by_test (waits_for number w)
-    (λ e. rw e (passed_found number w.level m l))
-    (λ e. rw (e, push_queued) (passed_all number (m ++ (w ∷ [])) l ∙ rw append_snoc))
+-- one more that is looked at stays, if the first is found or it waits for another number
+abbrev pub stays : ℕ → Waiter → List Waiter → Bool
+stays number w l = is_some (first_of (levels_for number l)) || not (waits_for number w)
 
--- so the loop over a queue's list ends with its first waiter of the number, and the queue that it leaves
-pub leaving_fold : (q : Queue) (number : ℕ) → fold_of (passed_of number) (record { found = false; level = 0; queue = empty_of }) (list_of q) ≡ leaving_of q number
-unfolding empty_of leaving_of
-leaving_fold q number = passed_all number [] (list_of q)
+module _ (number : ℕ) (w : Waiter) where
+  -- then the first is who it was
+  pub first_stays : (l : List Waiter) → stays number w l ≡ true → first_of (levels_for number (l ++ (w ∷ []))) ≡ first_of (levels_for number l)
+  unfolding levels_for keep_of
+  first_stays [] s = by_test (waits_for number w) (λ e. absurd (never_both (rw e at s) refl)) (λ e. rw e)
+  first_stays (v ∷ l) s = by_test (waits_for number v) (λ e. rw e) (λ e. rw e (first_stays l (rw e at s)))
+
+  -- and it stands behind those that stayed
+  stays_behind : (l : List Waiter) → stays number w l ≡ true → without_first number (l ++ (w ∷ [])) ≡ without_first number l ++ (w ∷ [])
+  unfolding levels_for keep_of without_first
+  stays_behind [] s = by_test (waits_for number w) (λ e. absurd (never_both (rw e at s) refl)) (λ e. rw e)
+  stays_behind (v ∷ l) s = by_test (waits_for number v) (λ e. rw e) (λ e. rw e (ap (◌∷◌ v) (stays_behind l (rw e at s))))
+
+  -- so it does in the queue
+  pub without_stays : (l : List Waiter) → stays number w l ≡ true → push_of (queued (without_first number l)) w ≡ queued (without_first number (l ++ (w ∷ [])))
+  without_stays l s = push_queued (without_first number l) w ∙ ap queued (sym (stays_behind l s))
+
+  -- else it is the first
+  pub first_found : (l : List Waiter) → stays number w l ≡ false → first_of (levels_for number (l ++ (w ∷ []))) ≡ Some w.level
+  unfolding levels_for keep_of
+  first_found [] s = by_test (waits_for number w) (λ e. rw e) (λ e. absurd (never_both refl (rw e at s)))
+  first_found (v ∷ l) s = by_test (waits_for number v) (λ e. absurd (never_both refl (rw e at s))) (λ e. rw e (first_found l (rw e at s)))
+
+  -- and leaves
+  pub without_found : (l : List Waiter) → stays number w l ≡ false → without_first number (l ++ (w ∷ [])) ≡ without_first number l
+  unfolding levels_for keep_of without_first
+  without_found [] s = by_test (waits_for number w) (λ e. rw e) (λ e. absurd (never_both refl (rw e at s)))
+  without_found (v ∷ l) s = by_test (waits_for number v) (λ e. absurd (never_both refl (rw e at s))) (λ e. rw e (ap (◌∷◌ v) (without_found l (rw e at s))))
+
+-- nobody leaves, or the first does
+pub by_leaving : {P : Type 0} (o : Option Leaving) → (o ≡ None → P) → ((leaving : Leaving) → o ≡ Some leaving → P) → P
+by_leaving None none some = none refl
+by_leaving (Some leaving) none some = some leaving refl
+
+-- where there is a first, it leaves
+pub leaving_some : (levels : List ℕ) (q : Queue) (level : ℕ) → first_of levels ≡ Some level → leaving_as levels q ≡ Some (record { level = level; queue = q })
+leaving_some [] q level e = cc
+leaving_some (first ∷ others) q level e = cc
+
+-- and where there is none, nobody does
+pub leaving_none : (levels : List ℕ) (q : Queue) → first_of levels ≡ None → leaving_as levels q ≡ None
+leaving_none [] q e = refl
+leaving_none (first ∷ others) q e = cc
 
 -- ---- the list of levels that are woken
 

@@ -1,6 +1,7 @@
 -- Whom a release wakes. Assumes nothing.
 use mathlib.Core.Path.{◌≡◌, refl, ap, sym}
 use mathlib.Core.Bool.{true, false}
+use Rattle.std.specs.Prelude.{Option, Some, None, Result, Ok, Err}
 use mathlib.Core.List.{List, [], ◌∷◌, map}
 use Prim.Native.Nat.{ℕ, zero, suc, ◌+◌, ◌≤◌}
 use native.Mathlib.Omega.{arith}
@@ -13,33 +14,28 @@ use Rattle.common.proofs.Once.{stands_cases, stands_part, stands_either, once_pa
 use Rattle.common.proofs.Parts.{Part, part_all, part_map, part_length}
 use Rattle.semaphores.specs.declared.queues.Waiter.{Waiter}
 use Rattle.semaphores.specs.declared.queues.Queue.{Queue}
-use Rattle.semaphores.specs.declared.Released.{Released}
-use Rattle.semaphores.specs.declared.Released.TheVariants.{Unusable, NotHolder, Freed, HandedTo}
+use Rattle.semaphores.specs.declared.NotReleased.{NotReleased}
 use Rattle.semaphores.specs.declared.Semaphores.{Semaphores}
 use Rattle.semaphores.specs.Queues.{list_of, queued, waits_for, levels_for, without_first, leaving_as, leaving_of}
-use Rattle.semaphores.specs.Semaphores.{usable_of, waiters_of, handed_on, holds_of, not_held_of, release_of, woken_of, woken_from}
+use Rattle.semaphores.specs.Semaphores.{released_in, after_release, waiters_of, handed_on, holds_of, release_of, woken_of, woken_from}
 use Rattle.semaphores.specs.Turns.{waiting_of}
 use Rattle.semaphores.proofs.Effects.{release_not_held}
 use Rattle.semaphores.proofs.Waiting.{list_short, list_queued, without_none, part_without, levels_part}
 
 -- of a list of levels that wait
-handed_wakes : (s : Semaphores) (number : ℕ) (levels : List ℕ) (q : Queue) → woken_of (handed_on s number (leaving_as levels q)).released ≡ take 1 levels
+handed_wakes : (s : Semaphores) (number : ℕ) (levels : List ℕ) (q : Queue) → woken_of (Ok (handed_on s number (leaving_as levels q)).handed_to) ≡ take 1 levels
 handed_wakes s number [] q = refl
 handed_wakes s number (level ∷ levels) q = refl
 
 -- a release wakes the first that waits, the one that holds the semaphore then, and nobody where nobody waits
-pub release_wakes : (s : Semaphores) (level number : ℕ) → holds_of s level number ≡ true → woken_of (release_of s level number).released ≡ take 1 (waiters_of s number)
+pub release_wakes : (s : Semaphores) (level number : ℕ) → holds_of s level number ≡ true → woken_of (released_in (release_of s level number)) ≡ take 1 (waiters_of s number)
 unfolding release_of leaving_of waiters_of
 release_wakes s level number holds = rw holds (handed_wakes s number (levels_for number (list_of s.queue)) _)
 
 -- who does not hold it wakes nobody, whyever it is refused
-pub not_held_wakes : (s : Semaphores) (number : ℕ) → woken_of (not_held_of s number) ≡ []
-unfolding not_held_of
-not_held_wakes s number = by_test (usable_of number) (λ e. rw e) (λ e. rw e)
-
-pub release_wakes_none : (s : Semaphores) (level number : ℕ) → holds_of s level number ≡ false → woken_of (release_of s level number).released ≡ []
+pub release_wakes_none : (s : Semaphores) (level number : ℕ) → holds_of s level number ≡ false → woken_of (released_in (release_of s level number)) ≡ []
 unfolding release_of
-release_wakes_none s level number holds = rw holds (not_held_wakes s number)
+release_wakes_none s level number holds = rw holds
 
 -- who wakes has left the queue
 first_leaves : (number : ℕ) (l : List Waiter) → length (take 1 (levels_for number l)) + length (without_first number l) ≤ length l
@@ -53,7 +49,7 @@ first_leaves number (w ∷ l) =
 -- whatever list of levels waits
 handed_leaves : (s : Semaphores) (number : ℕ) (levels : List ℕ)
     → length (take 1 levels) + length (without_first number (list_of s.queue)) ≤ length (list_of s.queue)
-    → length (woken_of (handed_on s number (leaving_as levels (queued (without_first number (list_of s.queue))))).released)
+    → length (woken_of (Ok (handed_on s number (leaving_as levels (queued (without_first number (list_of s.queue))))).handed_to))
     + length (list_of (handed_on s number (leaving_as levels (queued (without_first number (list_of s.queue))))).semaphores.queue)
     ≤ length (list_of s.queue)
 handed_leaves s number [] less = omega arith
@@ -62,12 +58,12 @@ handed_leaves s number (level ∷ levels) less =
 
 -- so each release leaves so many less in the queue
 release_leaves : (s : Semaphores) (level number : ℕ)
-    → length (woken_of (release_of s level number).released) + length (list_of (release_of s level number).semaphores.queue) ≤ length (list_of s.queue)
+    → length (woken_of (released_in (release_of s level number))) + length (list_of (after_release s (release_of s level number)).queue) ≤ length (list_of s.queue)
 unfolding release_of leaving_of
 release_leaves s level number =
     by_test (holds_of s level number)
     (λ e. rw e (handed_leaves s number (levels_for number (list_of s.queue)) (first_leaves number (list_of s.queue))))
-    (λ e. rw (e, not_held_wakes s number) (omega arith))
+    (λ e. rw e (omega arith))
 
 -- and so do many
 releases_leave : (many number level : ℕ) (s : Semaphores) → length (woken_from many number level s) ≤ length (list_of s.queue)
@@ -78,7 +74,7 @@ releases_leave (suc many) number level s =
     (omega (
       arith,
       release_leaves s level number,
-      releases_leave many (suc number) level (release_of s level number).semaphores,
+      releases_leave many (suc number) level (after_release s (release_of s level number)),
     ))
 
 -- whom a release of all wakes are twelve at most, however the semaphores stand, so that the list of levels has a place for each
@@ -125,13 +121,13 @@ handed_list s number [] e = sym (without_none number (list_of s.queue) e)
 handed_list s number (level ∷ levels) e = list_queued _ (omega (arith, list_short s.queue, part_length (part_without number (list_of s.queue))))
 
 -- and so does a release by the holder
-release_list : (s : Semaphores) (by number : ℕ) → holds_of s by number ≡ true → list_of (release_of s by number).semaphores.queue ≡ without_first number (list_of s.queue)
+release_list : (s : Semaphores) (by number : ℕ) → holds_of s by number ≡ true → list_of (after_release s (release_of s by number)).queue ≡ without_first number (list_of s.queue)
 unfolding release_of leaving_of
 release_list s by number holds = rw holds (handed_list s number (levels_for number (list_of s.queue)) refl)
 
 module _ (s : Semaphores) (by number : ℕ) where
   -- who waits after a release waited before it, in the same order
-  release_part : Part (waiting_of (release_of s by number).semaphores) (waiting_of s)
+  release_part : Part (waiting_of (after_release s (release_of s by number))) (waiting_of s)
   unfolding waiting_of
   release_part =
       by_test (holds_of s by number)
@@ -139,7 +135,7 @@ module _ (s : Semaphores) (by number : ℕ) where
       (λ fails. rw (release_not_held s by number fails) (part_all _))
 
   -- whom a release wakes was waiting
-  pub release_waiting : (level : ℕ) → stands_in level (woken_of (release_of s by number).released) ≡ true → stands_in level (waiting_of s) ≡ true
+  pub release_waiting : (level : ℕ) → stands_in level (woken_of (released_in (release_of s by number))) ≡ true → stands_in level (waiting_of s) ≡ true
   unfolding waiting_of waiters_of stands_in
   release_waiting level stands =
       by_test (holds_of s by number)
@@ -147,8 +143,8 @@ module _ (s : Semaphores) (by number : ℕ) where
       (λ fails. absurd (never_both stands (ap (stands_in level) (release_wakes_none s by number fails))))
 
   -- and where each level waits once, it waits no more
-  release_gone : Once (waiting_of s) → (level : ℕ) → stands_in level (woken_of (release_of s by number).released) ≡ true
-      → stands_in level (waiting_of (release_of s by number).semaphores) ≡ false
+  release_gone : Once (waiting_of s) → (level : ℕ) → stands_in level (woken_of (released_in (release_of s by number))) ≡ true
+      → stands_in level (waiting_of (after_release s (release_of s by number))) ≡ false
   unfolding waiting_of waiters_of stands_in
   release_gone once level stands =
       by_test (holds_of s by number)
@@ -156,40 +152,38 @@ module _ (s : Semaphores) (by number : ℕ) where
       (λ fails. absurd (never_both stands (ap (stands_in level) (release_wakes_none s by number fails))))
 
 -- nobody wakes twice in one release
-pub release_once : (r : Released) → Once (woken_of r)
+pub release_once : (r : Result (Option ℕ) NotReleased) → Once (woken_of r)
 unfolding Once stands_in
-release_once Unusable = tt
-release_once (NotHolder level) = tt
-release_once Freed = tt
-release_once (HandedTo level) = (refl, tt)
+release_once (Err why) = tt
+release_once (Ok None) = tt
+release_once (Ok (Some level)) = (refl, tt)
 
 -- which wakes one at most
-pub release_few : (r : Released) → length (woken_of r) ≤ 1
-release_few Unusable = omega arith
-release_few (NotHolder level) = omega arith
-release_few Freed = omega arith
-release_few (HandedTo level) = omega arith
+pub release_few : (r : Result (Option ℕ) NotReleased) → length (woken_of r) ≤ 1
+release_few (Err why) = omega arith
+release_few (Ok None) = omega arith
+release_few (Ok (Some level)) = omega arith
 
 -- whom the releases of many numbers wake were waiting
 pub woken_waiting : (many number by : ℕ) (s : Semaphores) (level : ℕ) → stands_in level (woken_from many number by s) ≡ true → stands_in level (waiting_of s) ≡ true
 unfolding woken_from stands_in
 woken_waiting zero number by s level stands = absurd (never_both stands refl)
 woken_waiting (suc many) number by s level stands =
-    stands_either level (woken_of (release_of s by number).released) (woken_from many (suc number) by (release_of s by number).semaphores) stands
+    stands_either level (woken_of (released_in (release_of s by number))) (woken_from many (suc number) by (after_release s (release_of s by number))) stands
     (release_waiting s by number level)
-    (λ later. stands_part level (release_part s by number) (woken_waiting many (suc number) by (release_of s by number).semaphores level later))
+    (λ later. stands_part level (release_part s by number) (woken_waiting many (suc number) by (after_release s (release_of s by number)) level later))
 
 -- and where each level waits once, each wakes once
 pub woken_once : (many number by : ℕ) (s : Semaphores) → Once (waiting_of s) → Once (woken_from many number by s)
 unfolding woken_from Once
 woken_once zero number by s once = tt
 woken_once (suc many) number by s once =
-    once_append (woken_of (release_of s by number).released) (woken_from many (suc number) by (release_of s by number).semaphores)
-    (release_once (release_of s by number).released)
-    (woken_once many (suc number) by (release_of s by number).semaphores (once_part (release_part s by number) once))
-    (λ level stands. by_test (stands_in level (woken_from many (suc number) by (release_of s by number).semaphores))
+    once_append (woken_of (released_in (release_of s by number))) (woken_from many (suc number) by (after_release s (release_of s by number)))
+    (release_once (released_in (release_of s by number)))
+    (woken_once many (suc number) by (after_release s (release_of s by number)) (once_part (release_part s by number) once))
+    (λ level stands. by_test (stands_in level (woken_from many (suc number) by (after_release s (release_of s by number))))
     (λ again. absurd
     (never_both
-    (woken_waiting many (suc number) by (release_of s by number).semaphores level again)
+    (woken_waiting many (suc number) by (after_release s (release_of s by number)) level again)
     (release_gone s by number once level stands)))
     (λ none. none))

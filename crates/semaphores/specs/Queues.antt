@@ -1,5 +1,5 @@
 -- Who waits, in order of arrival. Definitions go by the list of those that wait; `queued` says how such a list lies in the code's array.
-use Rattle.std.specs.Prelude.{Bool, true, false, not, ◌||◌, List, [], ◌∷◌, map, ℕ, ◌+◌, min, eqb, ltb, length, take, set}
+use Rattle.std.specs.Prelude.{Bool, Option, Some, None, List, [], ◌∷◌, map, ℕ, ◌+◌, min, eqb, ltb, length, take, set}
 use Rattle.common.specs.Choice.{pick}
 use Rattle.common.specs.Keep.{keep_of}
 use Rattle.common.specs.Packing.{packed_of}
@@ -39,19 +39,12 @@ without_first number [] = []
 without_first number (w ∷ l) = pick (waits_for number w) l (w ∷ without_first number l)
 
 -- a first one of a list of levels, if there is one
-abbrev pub leaving_as : List ℕ → Queue → Leaving
-leaving_as [] q = record { found = false; level = 0; queue = q }
-leaving_as (level ∷ others) q = record { found = true; level = level; queue = q }
-
--- one waiter more is looked at: the first with the number is found, and every other stays, behind those that stayed before
-unfoldable pub passed_of : ℕ → Leaving → Waiter → Leaving
-passed_of number passing w =
-    pick (passing.found || not (waits_for number w))
-    (record { found = passing.found; level = passing.level; queue = push_of passing.queue w })
-    (record { found = true; level = w.level; queue = passing.queue })
+abbrev pub leaving_as : List ℕ → Queue → Option Leaving
+leaving_as [] q = None
+leaving_as (level ∷ others) q = Some (record { level = level; queue = q })
 
 -- "the first waiter" of a number, and the queue that it leaves
-unfoldable pub leaving_of : Queue → ℕ → Leaving
+unfoldable pub leaving_of : Queue → ℕ → Option Leaving
 leaving_of q number = leaving_as (levels_for number (list_of q)) (queued (without_first number (list_of q)))
 
 -- ---- lists of levels

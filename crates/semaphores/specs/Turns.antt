@@ -1,14 +1,15 @@
 -- Demand 3 at the level of the semaphores: "A process that begins to wait for a semaphore with k-1 waiters before it becomes the holder at
 -- the k-th release of that semaphore after that, and not earlier; there are never two holders." What happens is any sequence of requests and
 -- releases; a request by a level that waits already, or by none of the twelve, is refused before it comes here, and so is no step.
-use Rattle.std.specs.Prelude.{◌≡◌, Bool, true, false, not, List, [], ◌∷◌, ◌++◌, map, ℕ, ◌+◌, ◌-◌, ◌<◌, ◌≤◌, eqb, ltb, length, get_or, drop}
+use Rattle.std.specs.Prelude.{◌≡◌, Bool, true, false, not, Result, Ok, Err, List, [], ◌∷◌, ◌++◌, map, ℕ, ◌+◌, ◌-◌, ◌<◌, ◌≤◌, eqb, ltb, length, get_or, drop}
 use Rattle.common.specs.Choice.{pick}
 use Rattle.common.specs.Stands.{stands_in, Once}
 use Rattle.semaphores.specs.declared.Semaphores.{Semaphores}
+use Rattle.semaphores.specs.declared.Unusable.{Unusable}
 use Rattle.semaphores.specs.declared.Requested.{Requested}
-use Rattle.semaphores.specs.declared.Requested.TheVariants.{Unusable, Held, Waits}
+use Rattle.semaphores.specs.declared.Requested.TheVariants.{Held, Waits}
 use Rattle.semaphores.specs.Queues.{list_of}
-use Rattle.semaphores.specs.Semaphores.{usable_of, free, holder_of, holds_of, waiters_of, request_of, release_of, released_from}
+use Rattle.semaphores.specs.Semaphores.{requested_in, after_request, after_release, usable_of, free, holder_of, holds_of, waiters_of, request_of, release_of, released_from}
 
 -- the levels that wait, for whichever number
 unfoldable pub waiting_of : Semaphores → List ℕ
@@ -25,8 +26,8 @@ may_request s level = pick (ltb level 12) (not (stands_in level (waiting_of s)))
 
 -- the semaphores after a step, and after a sequence of steps
 unfoldable pub step_of : Step → Semaphores → Semaphores
-step_of (requests level number) s = pick (may_request s level) (request_of s level number).semaphores s
-step_of (releases level number) s = (release_of s level number).semaphores
+step_of (requests level number) s = pick (may_request s level) (after_request s (request_of s level number)) s
+step_of (releases level number) s = after_release s (release_of s level number)
 step_of (releases_all level) s = released_from 96 0 level s
 
 unfoldable pub after_of : List Step → Semaphores → Semaphores
@@ -45,14 +46,14 @@ releases_of number [] s = 0
 releases_of number (x ∷ steps) s = pick (releases_number number x s) 1 0 + releases_of number steps (step_of x s)
 
 -- where a request has to wait, these join a queue
-abbrev pub joined_by : Requested → List ℕ → List ℕ
-joined_by Unusable levels = []
-joined_by Held levels = []
-joined_by Waits levels = levels
+abbrev pub joined_by : Result Requested Unusable → List ℕ → List ℕ
+joined_by (Err why) levels = []
+joined_by (Ok Held) levels = []
+joined_by (Ok Waits) levels = levels
 
 -- who joins the queue of a number in a step: the level that requests it and has to wait, and nobody else
 unfoldable pub joins_of : ℕ → Step → Semaphores → List ℕ
-joins_of number (requests level other) s = pick (may_request s level) (joined_by (request_of s level other).requested (pick (eqb other number) (level ∷ []) [])) []
+joins_of number (requests level other) s = pick (may_request s level) (joined_by (requested_in (request_of s level other)) (pick (eqb other number) (level ∷ []) [])) []
 joins_of number (releases level other) s = []
 joins_of number (releases_all level) s = []
 
@@ -88,7 +89,7 @@ pub record BeginsToWait (level number k : ℕ) (s : Semaphores) : Type 0 where
   pub orderly : Orderly s
   -- its request is let through, and has to wait
   pub lets : may_request s level ≡ true
-  pub waits : (request_of s level number).requested ≡ Waits
+  pub waits : requested_in (request_of s level number) ≡ Ok Waits
   -- and k - 1 wait already
   pub before : length (waiters_of s number) + 1 ≡ k
 

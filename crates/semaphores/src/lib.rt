@@ -2,7 +2,7 @@
 #![tactic(auto)]
 
 ghost use Rattle.std.specs.Prelude.{◌≡◌};
-ghost use Rattle.semaphores.specs.Semaphores.{requested_number, released_number, usable_of, fresh_of, request_of, holds_of, not_held_of, release_of, also_of, release_all_of};
+ghost use Rattle.semaphores.specs.Semaphores.{requested_in, released_in, requested_number, released_number, usable_of, checked_of, fresh_of, request_of, holds_of, release_of, also_of, release_all_of};
 
 pub mod queues;
 
@@ -19,9 +19,12 @@ pub struct Semaphores {
     pub queue: Queue,
 }
 
+// A number is none that processes may use.
+#[derive(Clone, Copy)]
+pub struct Unusable;
+
 #[derive(Clone, Copy)]
 pub enum Requested {
-    Unusable,
     Held,
     Waits,
 }
@@ -32,19 +35,18 @@ pub struct Request {
     pub semaphores: Semaphores,
 }
 
+// Why a release is refused.
 #[derive(Clone, Copy)]
-pub enum Released {
+pub enum NotReleased {
     Unusable,
     // The caller does not hold it: the level that does, or FREE.
     NotHolder(u8),
-    Freed,
-    // The first that waited holds it now.
-    HandedTo(u8),
 }
 
 #[derive(Drop)]
 pub struct Release {
-    pub released: Released,
+    // The first that waited, which holds it now; where nobody waited it is free.
+    pub handed_to: Option<u8>,
     pub semaphores: Semaphores,
 }
 
@@ -55,30 +57,37 @@ pub struct ReleaseAll {
     pub semaphores: Semaphores,
 }
 
-impl Requested {
-    // The answer number of REQSEMA.
-    pub fn number(self) -> u8
-        ensures { result ≡ requested_number self }
-    {
-        match self {
-            Requested::Unusable => 6,
-            Requested::Held => 0,
-            Requested::Waits => 32,
-        }
+impl From<Unusable> for NotReleased {
+    ghost use Rattle.semaphores.specs.declared.NotReleased.{NotReleased};
+
+    ghost from_gives = { λ _ why. why ≡ NotReleased.Unusable };
+
+    fn from(_: Unusable) -> NotReleased {
+        NotReleased::Unusable
     }
 }
 
-impl Released {
-    // The answer number of RELSEMA.
-    pub fn number(self) -> u8
-        ensures { result ≡ released_number self }
-    {
-        match self {
-            Released::Unusable => 15,
-            Released::NotHolder(_) => 37,
-            Released::Freed => 0,
-            Released::HandedTo(_) => 0,
-        }
+// The answer number of REQSEMA.
+pub fn request_number(request: &Result<Request, Unusable>) -> u8
+    ensures { result ≡ requested_number (requested_in request.now) }
+{
+    match request {
+        Err(Unusable) => 6,
+        Ok(request) => match request.requested {
+            Requested::Held => 0,
+            Requested::Waits => 32,
+        },
+    }
+}
+
+// The answer number of RELSEMA.
+pub fn release_number(release: &Result<Release, NotReleased>) -> u8
+    ensures { result ≡ released_number (released_in release.now) }
+{
+    match release {
+        Err(NotReleased::Unusable) => 15,
+        Err(NotReleased::NotHolder(_)) => 37,
+        Ok(_) => 0,
     }
 }
 
@@ -87,6 +96,17 @@ pub fn usable(number: u16) -> bool
     ensures { result ≡ usable_of number }
 {
     (number <= 31) | ((50 <= number) & (number <= 95))
+}
+
+// The number, if it is usable.
+fn checked(number: u16) -> Result<u8, Unusable>
+    ensures { result ≡ checked_of number }
+{
+    if usable(number) {
+        Ok(number as u8)
+    } else {
+        Err(Unusable)
+    }
 }
 
 impl Semaphores {
@@ -101,115 +121,80 @@ impl Semaphores {
     }
 
     // REQSEMA: a free semaphore is the caller's, its own stays so, and for another's it waits, last in that queue.
-    pub fn request(self, level: u8, number: u16) -> Request
+    pub fn request(self, level: u8, number: u16) -> Result<Request, Unusable>
         ensures { result ≡ request_of self level number }
     {
-        if usable(number) {
-            let at = number as usize;
-            let mut holders = self.holders;
-            let holder = holders[at];
-            let queue = self.queue;
-            if holder == FREE {
-                holders[at] = level;
-                return Request {
-                    requested: Requested::Held,
-                    semaphores: Semaphores { holders, queue },
-                };
-            }
-            if holder == level {
-                return Request {
-                    requested: Requested::Held,
-                    semaphores: self,
-                };
-            }
-            let queue = queue.push(Waiter {
-                level,
-                number: number as u8,
-            });
-            return Request {
-                requested: Requested::Waits,
-                semaphores: Semaphores { holders, queue },
-            };
-        }
-        Request {
-            requested: Requested::Unusable,
-            semaphores: self,
-        }
+        let number = checked(number)?;
+        let at = usize::from(number);
+        let holder = self.holders[at];
+        let mut semaphores = self;
+        let requested = if holder == FREE {
+            semaphores.holders[at] = level;
+            Requested::Held
+        } else if holder == level {
+            Requested::Held
+        } else {
+            semaphores.queue = self.queue.push(Waiter { level, number });
+            Requested::Waits
+        };
+        Ok(Request {
+            requested,
+            semaphores,
+        })
     }
 
     // The number is usable, and the level holds it.
     pub fn holds(self, level: u8, number: u16) -> bool
         ensures { result ≡ holds_of self level number }
     {
-        if usable(number) {
-            let holders = self.holders;
-            let at = number as usize;
-            holders[at] == level
-        } else {
-            false
+        match checked(number) {
+            Ok(number) => self.holders[usize::from(number)] == level,
+            Err(Unusable) => false,
         }
     }
 
-    // Why a level that does not hold a number cannot release it: an unusable number goes first, then who holds it.
-    fn not_held(self, number: u16) -> Released
-        ensures { result ≡ not_held_of self number }
-    {
-        if usable(number) {
-            let holders = self.holders;
-            Released::NotHolder(holders[number as usize])
-        } else {
-            Released::Unusable
-        }
-    }
-
-    // RELSEMA of one number: the first that waits for it holds it now, or it is free.
-    pub fn release(self, level: u8, number: u16) -> Release
+    // RELSEMA of one number: the first that waits for it holds it now, or it is free. Where it is refused, an unusable number goes first, then who
+    // holds it.
+    pub fn release(self, level: u8, number: u16) -> Result<Release, NotReleased>
         ensures { result ≡ release_of self level number }
     {
-        if self.holds(level, number) {
-            let at = number as usize;
-            let mut holders = self.holders;
-            let queue = self.queue;
-            let leaving = queue.leaving(number as u8);
-            if leaving.found {
-                let to = leaving.level;
-                let queue = leaving.queue;
-                holders[at] = to;
-                return Release {
-                    released: Released::HandedTo(to),
-                    semaphores: Semaphores { holders, queue },
-                };
-            }
-            holders[at] = FREE;
-            return Release {
-                released: Released::Freed,
-                semaphores: Semaphores { holders, queue },
-            };
+        let number = checked(number)?;
+        let at = usize::from(number);
+        let holder = self.holders[at];
+        if holder != level {
+            return Err(NotReleased::NotHolder(holder));
         }
-        let released = self.not_held(number);
-        Release {
-            released,
-            semaphores: self,
-        }
+        let mut semaphores = self;
+        let Some(leaving) = self.queue.leaving(number) else {
+            semaphores.holders[at] = FREE;
+            return Ok(Release {
+                handed_to: None,
+                semaphores,
+            });
+        };
+        semaphores.holders[at] = leaving.level;
+        semaphores.queue = leaving.queue;
+        Ok(Release {
+            handed_to: Some(leaving.level),
+            semaphores,
+        })
     }
 
     // RELSEMA of -1: all that the caller holds, numbers rising.
     pub fn release_all(self, level: u8) -> ReleaseAll
         ensures { result ≡ release_all_of self level }
     {
-        let mut woken = Levels::none();
-        let mut semaphores = self;
-        let mut number: u16 = 0;
-        while number < 96 {
+        let mut all = ReleaseAll {
+            woken: Levels::none(),
+            semaphores: self,
+        };
+        for number in 0..96 {
             // Most numbers are another's or nobody's: these are passed over without a copy of anything.
-            if semaphores.holders[number as usize] == level {
-                let all = ReleaseAll { woken, semaphores }.also(level, number);
-                woken = all.woken;
-                semaphores = all.semaphores;
+            if all.semaphores.holders[usize::from(number)] == level {
+                all = all.also(level, number);
             }
-            number += 1;
         }
-        ReleaseAll { woken, semaphores }
+        all
     }
 }
 
@@ -218,19 +203,16 @@ impl ReleaseAll {
     fn also(self, level: u8, number: u16) -> ReleaseAll
         ensures { result ≡ also_of self level number }
     {
-        let woken = self.woken;
-        let semaphores = self.semaphores;
-        let release = semaphores.release(level, number);
-        let released = release.released;
-        let semaphores = release.semaphores;
-        match released {
-            Released::HandedTo(to) => {
-                let woken = woken.with(to);
-                ReleaseAll { woken, semaphores }
-            }
-            Released::Freed => ReleaseAll { woken, semaphores },
-            Released::Unusable => ReleaseAll { woken, semaphores },
-            Released::NotHolder(_) => ReleaseAll { woken, semaphores },
+        let Ok(release) = self.semaphores.release(level, number) else {
+            return self;
+        };
+        let woken = match release.handed_to {
+            Some(to) => self.woken.with(to),
+            None => self.woken,
+        };
+        ReleaseAll {
+            woken,
+            semaphores: release.semaphores,
         }
     }
 }

@@ -1,6 +1,6 @@
 // Who waits for a semaphore, in order of arrival, and lists of levels.
-ghost use Rattle.std.specs.Prelude.{◌≡◌};
-ghost use Rattle.semaphores.specs.Queues.{empty_of, push_of, passed_of, leaving_of, none_of, with_of};
+ghost use Rattle.std.specs.Prelude.{◌≡◌, min, take};
+ghost use Rattle.semaphores.specs.Queues.{list_of, empty_of, push_of, leaving_of, none_of, with_of};
 
 #[derive(Clone, Copy)]
 pub struct Waiter {
@@ -23,9 +23,8 @@ pub struct Levels {
 }
 
 // Who waited first for a number, and the queue without it.
-#[derive(Drop)]
+#[derive(Clone, Copy)]
 pub struct Leaving {
-    pub found: bool,
     pub level: u8,
     pub queue: Queue,
 }
@@ -64,47 +63,29 @@ impl Queue {
         }
     }
 
-    // The first that waits for the number leaves.
-    pub fn leaving(self, number: u8) -> Leaving
+    // Those that wait, in order of arrival.
+    pub fn standing(&self) -> &[Waiter]
+        ensures { result.now ≡ list_of self.now }
+    {
+        &self.waiters[..self.count.min(12)]
+    }
+
+    // The first that waits for the number leaves, if there is one.
+    pub fn leaving(self, number: u8) -> Option<Leaving>
         ensures { result ≡ leaving_of self number }
     {
-        let waiters = self.waiters;
-        let count = common::least(self.count, 12);
-        let mut passing = Leaving {
-            found: false,
-            level: 0,
-            queue: Queue::empty(),
-        };
-        let mut at = 0;
-        while at < count {
-            let waiter = waiters[at];
-            passing = passing.passed(waiter, number);
-            at += 1;
-        }
-        passing
-    }
-}
-
-impl Leaving {
-    // One waiter more is looked at: the first with the number is found, and every other stays.
-    fn passed(self, waiter: Waiter, number: u8) -> Leaving
-        ensures { result ≡ passed_of number self waiter }
-    {
-        let queue = self.queue;
-        if self.found | (waiter.number != number) {
-            let queue = queue.push(waiter);
-            Leaving {
-                found: self.found,
-                level: self.level,
-                queue,
-            }
-        } else {
-            Leaving {
-                found: true,
-                level: waiter.level,
-                queue,
+        let mut first = None;
+        let mut queue = Queue::empty();
+        for waiter in self.standing() {
+            // The first with the number leaves, and every other stays.
+            if first.is_some() | (waiter.number != number) {
+                queue = queue.push(*waiter);
+            } else {
+                first = Some(waiter.level);
             }
         }
+        let level = first?;
+        Some(Leaving { level, queue })
     }
 }
 
@@ -116,6 +97,13 @@ impl Levels {
             levels: [0; 12],
             count: 0,
         }
+    }
+
+    // Those that are there, in order.
+    pub fn standing(&self) -> &[u8]
+        ensures { result.now ≡ take (min self.now.count 12) self.now.levels }
+    {
+        &self.levels[..self.count.min(12)]
     }
 
     // One level more, behind the others, if there is a place.

@@ -9,7 +9,8 @@ use Rattle.process.specs.declared.states.Cause.TheVariants.{Start}
 use Rattle.process.specs.declared.states.State.TheVariants.{Inactive, Ready}
 use Rattle.process.specs.Process.{moved_of, with_priority_of}
 use Rattle.process.specs.States.{is_of}
-use Rattle.table.specs.declared.answers.Answer.TheVariants.{Ok, ParameterError, NotReady, Started}
+use Rattle.table.specs.declared.answers.Answer.{Answer}
+use Rattle.table.specs.declared.answers.Answer.TheVariants.{ParameterError, NotReady, Started}
 use Rattle.table.specs.declared.Table.{Table}
 use Rattle.table.specs.Wakes.{no_wakes_of}
 use Rattle.calls.specs.Decisions.{decided, told_of, decided_at}
@@ -20,7 +21,7 @@ use Rattle.calls.proofs.Deciding.{decided_call}
 use Rattle.starting.specs.Starting.{start_of, set_priority_of, started_of, prioritized_of}
 
 -- 0, and another record at a level
-done_told : (t : Table) (level : ℕ) (p : Process) → decided_at t level (decided Ok nothing p) ≡ outcome_of (done (with_process t level p))
+done_told : (t : Table) (level : ℕ) (p : Process) → decided_at t level (decided Answer.Ok nothing p) ≡ outcome_of (done (with_process t level p))
 unfolding told_of outcome_of no_wakes_of
 done_told t level p = refl
 
@@ -34,11 +35,11 @@ module _ (t : Table) (level priority : ℕ) (other : Process) (whole : length t.
   started_all =
       decided_call t level other whole
       (λ p. check (leb priority 63) ParameterError ∷ check (is_of p.state Inactive) Started ∷ [])
-      (λ p. decided Ok nothing (with_priority_of (moved_of p Start) priority)) _ (done_told t level _)
+      (λ p. decided Answer.Ok nothing (with_priority_of (moved_of p Start) priority)) _ (done_told t level _)
 
   pub prioritized_all : decided_at t (min level 11) (prioritized_of t.config seen level priority) ≡ outcome_of (set_priority_of t level priority)
   unfolding prioritized_of set_priority_of
   prioritized_all =
       decided_call t level other whole
       (λ p. check (is_of p.state Ready) NotReady ∷ check (leb priority 63) ParameterError ∷ [])
-      (λ p. decided Ok nothing (with_priority_of p priority)) _ (done_told t level _)
+      (λ p. decided Answer.Ok nothing (with_priority_of p priority)) _ (done_told t level _)

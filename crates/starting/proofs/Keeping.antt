@@ -3,6 +3,7 @@ use mathlib.Core.Path.{◌≡◌, refl}
 use mathlib.Core.Bool.{true}
 use Prim.Native.Nat.{ℕ}
 use lib.Dec.{leb}
+use Rattle.std.specs.Prelude.{Ok}
 use Rattle.process.specs.declared.Process.{Process}
 use Rattle.process.specs.declared.states.State.TheVariants.{Inactive, Ready}
 use Rattle.process.specs.declared.states.Cause.TheVariants.{Start}
@@ -11,7 +12,6 @@ use Rattle.process.specs.States.{is_of, next_of}
 use Rattle.table.specs.declared.answers.Answer.TheVariants.{ParameterError, NoUser, Started}
 use Rattle.table.specs.declared.Table.{Table}
 use Rattle.table.specs.Configuration.{configured_of}
-use Rattle.calls.specs.declared.Verdict.TheVariants.{Passed}
 use Rattle.calls.specs.Levels.{process_of}
 use Rattle.calls.specs.Verdicts.{also_of, by_caller}
 use Rattle.calls.proofs.Obeying.{last_passed}
@@ -37,7 +37,7 @@ unfolding start_of Keeps
 start_keeps t level priority steady =
     keeps_obeyed _ t _ steady
     (λ passed.
-    let level_known = also_of Passed (configured_of t.config level) NoUser in
+    let level_known = also_of (Ok tt) (configured_of t.config level) NoUser in
     let inactive = last_passed (also_of level_known (leb priority 63) ParameterError) (is_of (process_of t level).state Inactive) Started passed in
     let small = last_passed level_known (leb priority 63) ParameterError inactive.0 in
     steady_process t level _ steady (tame_started t.config.places (process_of t level) priority small.1 inactive.1))

@@ -1,11 +1,12 @@
 // START and SETPRIORITY, for a table that is known to be sound.
 #![tactic(auto)]
 
-ghost use Rattle.std.specs.Prelude.{◌≡◌};
+ghost use Rattle.std.specs.Prelude.{◌≡◌, Ok};
 ghost use Rattle.calls.specs.Effects.{outcome_of};
-ghost use Rattle.starting.specs.Starting.{start_of, set_priority_of, started_of, prioritized_of};
+ghost use Rattle.calls.specs.Verdicts.{after, by_caller};
+ghost use Rattle.starting.specs.Starting.{start_of, set_priority_of, start_checks, started_of, priority_checks, prioritized_of};
 
-use calls::{Decided, Verdict};
+use calls::{Decided, check};
 use process::Process;
 use process::states::{Cause, State};
 use table::answers::Answer;
@@ -15,20 +16,23 @@ use table::{Outcome, Table};
 // The highest priority number.
 pub const LAST_PRIORITY: u16 = 63;
 
+// The checks of START, on the record of the level.
+fn start_checked(config: Config, process: Process, level: u16, priority: u16) -> Result<(), Answer>
+    ensures { result ≡ after (Ok tt) (start_checks config process level priority) }
+{
+    check(config.has_level(level), Answer::NoUser)?;
+    check(priority <= LAST_PRIORITY, Answer::ParameterError)?;
+    check(process.state == State::Inactive, Answer::Started)
+}
+
 // START of a level with this record.
 pub fn started(config: Config, process: Process, level: u16, priority: u16) -> Decided
     ensures { result ≡ started_of config process level priority }
 {
-    let state = process.state;
-    let verdict = Verdict::Passed
-        .check(config.has_level(level), Answer::NoUser)
-        .check(priority <= LAST_PRIORITY, Answer::ParameterError)
-        .check(state.is(State::Inactive), Answer::Started);
-    match verdict {
-        Verdict::Refused(answer) => Decided::alone(answer, process),
-        Verdict::Passed => {
-            let process = process.moved(Cause::Start);
-            let process = process.with_priority(priority as u8);
+    match start_checked(config, process, level, priority) {
+        Err(answer) => Decided::alone(answer, process),
+        Ok(()) => {
+            let process = process.moved(Cause::Start).with_priority(priority as u8);
             Decided::alone(Answer::Ok, process)
         }
     }
@@ -38,43 +42,38 @@ pub fn started(config: Config, process: Process, level: u16, priority: u16) -> D
 pub fn start(table: Table, level: u16, priority: u16) -> Outcome
     ensures { result ≡ outcome_of (start_of table level priority) }
 {
-    let mut after = table;
-    let config = after.config;
-    // A level above 11 is refused whatever record stands in for its own, and that one is put back as it was.
-    let at = common::least(level as usize, 11);
-    let process = after.processes[at];
-    let decided = started(config, process, level, priority);
-    let process = decided.process;
-    after.processes[at] = process;
-    calls::told(after, decided)
+    calls::on_record(table, level, |config, process| {
+        started(config, process, level, priority)
+    })
+}
+
+// The checks of SETPRIORITY, on the record of the caller.
+fn priority_checked(
+    config: Config,
+    process: Process,
+    caller: u8,
+    priority: u16,
+) -> Result<(), Answer>
+    ensures { result ≡ after (by_caller config process caller) (priority_checks priority) }
+{
+    calls::caller_checked(config, process, caller)?;
+    check(priority <= LAST_PRIORITY, Answer::ParameterError)
 }
 
 // SETPRIORITY of a level with this record.
 pub fn prioritized(config: Config, process: Process, caller: u8, priority: u16) -> Decided
     ensures { result ≡ prioritized_of config process caller priority }
 {
-    let verdict = calls::caller_checked(config, process, caller).check(
-        priority <= LAST_PRIORITY,
-        Answer::ParameterError,
-    );
-    match verdict {
-        Verdict::Refused(answer) => Decided::alone(answer, process),
-        Verdict::Passed => {
-            let process = process.with_priority(priority as u8);
-            Decided::alone(Answer::Ok, process)
-        }
+    match priority_checked(config, process, caller, priority) {
+        Err(answer) => Decided::alone(answer, process),
+        Ok(()) => Decided::alone(Answer::Ok, process.with_priority(priority as u8)),
     }
 }
 
 pub fn set_priority(table: Table, caller: u8, priority: u16) -> Outcome
     ensures { result ≡ outcome_of (set_priority_of table caller priority) }
 {
-    let mut after = table;
-    let config = after.config;
-    let at = common::least(caller as usize, 11);
-    let process = after.processes[at];
-    let decided = prioritized(config, process, caller, priority);
-    let process = decided.process;
-    after.processes[at] = process;
-    calls::told(after, decided)
+    calls::on_record(table, caller as u16, |config, process| {
+        prioritized(config, process, caller, priority)
+    })
 }

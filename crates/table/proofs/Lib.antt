@@ -1,8 +1,10 @@
+pub mod Chains
 pub mod Configured
 pub mod Empty
 pub mod Fresh
 pub mod Ordered
 pub mod Parts
+pub mod Places
 pub mod Queued
 pub mod Waking
 pub mod Signed

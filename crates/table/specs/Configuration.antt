@@ -1,13 +1,11 @@
 -- Document 01, "Configuration", with the pool's size of document 02, §1.
-use Rattle.std.specs.Prelude.{Bool, not, ◌&&◌, ◌||◌, ℕ, ◌+◌, eqb, leb, ltb, get_or}
+use Rattle.std.specs.Prelude.{Bool, not, ◌&&◌, ◌||◌, ℕ, ◌+◌, eqb, leb, ltb, get_or, Option, Some, None}
 use Rattle.common.specs.Choice.{pick}
 use Rattle.day.specs.TimeOfDay.{day}
 use Rattle.table.specs.declared.configs.Config.{Config}
 use Rattle.process.specs.declared.Target.{Target}
 use Rattle.process.specs.declared.Target.TheVariants.{All, Level, Unknown}
 use Rattle.table.specs.declared.configs.Privileged.{Privileged}
-use Rattle.table.specs.declared.configs.Privilege.{Privilege}
-use Rattle.table.specs.declared.configs.Privilege.TheVariants.{Owns, Nobody}
 use Rattle.table.specs.Words.{minus_one}
 
 -- "Lowest level L, 0 or more, and number of processes P, 1 to 11, with L + P - 1 at most 11."
@@ -85,13 +83,13 @@ abbrev pub has_input : ℕ → Privileged → Bool
 has_input input p = not (unused p) && leb p.first input && leb input p.last
 
 -- the first of the three places of which something is said
-unfoldable pub first_place : Config → Bool → Bool → Bool → Privilege
+unfoldable pub first_place : Config → Bool → Bool → Bool → Option Privileged
 first_place c first second third =
-    pick first (Owns (privileged_at c 0)) (pick second (Owns (privileged_at c 1)) (pick third (Owns (privileged_at c 2)) Nobody))
+    pick first (Some (privileged_at c 0)) (pick second (Some (privileged_at c 1)) (pick third (Some (privileged_at c 2)) None))
 
 -- a level's place, and the place that owns an input: levels are distinct and runs do not meet, so there is one at most
-unfoldable pub privilege_of : Config → ℕ → Privilege
+unfoldable pub privilege_of : Config → ℕ → Option Privileged
 privilege_of c level = first_place c (of_level level (privileged_at c 0)) (of_level level (privileged_at c 1)) (of_level level (privileged_at c 2))
 
-unfoldable pub owner_of : Config → ℕ → Privilege
+unfoldable pub owner_of : Config → ℕ → Option Privileged
 owner_of c input = first_place c (has_input input (privileged_at c 0)) (has_input input (privileged_at c 1)) (has_input input (privileged_at c 2))

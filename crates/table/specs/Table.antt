@@ -3,7 +3,6 @@ use Rattle.std.specs.Prelude.{false, replicate}
 use Rattle.inputs.specs.InputSet.{empty_of}
 use Rattle.orders.specs.Orders.{none_of}
 use Rattle.pool.specs.Control.{fresh_of as fresh_pool}
-use Rattle.process.specs.Messages.{zeros}
 use Rattle.process.specs.Process.{fresh_of as fresh_process}
 use Rattle.semaphores.specs.Semaphores.{fresh_of as fresh_semaphores}
 use Rattle.table.specs.declared.answers.Answer.{Answer}
@@ -34,13 +33,10 @@ unfoldable pub refused_of : Table → Answer → Outcome
 refused_of t answer = record {
   answer = answer;
   shown = Nothing;
-  message = zeros;
-  inputs = empty_of;
-  number = 0;
   wakes = no_wakes_of;
   table = t;
 }
 
 -- what an outcome says, without the table that it leaves
 abbrev pub said_of : Outcome → Said
-said_of o = record { answer = o.answer; shown = o.shown; message = o.message; inputs = o.inputs; number = o.number; wakes = o.wakes }
+said_of o = record { answer = o.answer; shown = o.shown; wakes = o.wakes }

@@ -2,7 +2,6 @@
 use Rattle.std.specs.Prelude.{List, [], ℕ, ◌+◌, min, ltb, length, set, replicate}
 use Rattle.common.specs.Choice.{pick}
 use Rattle.common.specs.Packing.{packed_of}
-use Rattle.process.specs.Messages.{zeros}
 use Rattle.process.specs.Marks.{number_of}
 use Rattle.table.specs.declared.wakes.Wake.{Wake}
 use Rattle.table.specs.declared.wakes.Woken.{Woken}
@@ -11,8 +10,8 @@ use Rattle.table.specs.declared.wakes.Wakes.{Wakes}
 
 -- a message wakes with what it tells; an event and a handover with 0
 abbrev pub number_by : Woken → ℕ
-number_by (ByMessage told) = number_of told
-number_by ByEvent = 0
+number_by (ByMessage told m) = number_of told
+number_by (ByEvent set) = 0
 number_by ByHandover = 0
 
 abbrev pub wake_number_of : Wake → ℕ
@@ -20,7 +19,7 @@ wake_number_of w = number_by w.woken
 
 -- what lies in a free place
 abbrev pub nobody : Wake
-nobody = record { level = 0; woken = ByEvent; message = zeros; inputs = record { words = replicate 4 0 } }
+nobody = record { level = 0; woken = ByEvent (record { words = replicate 4 0 }) }
 
 -- a list of wakes, in order, in twelve places
 unfoldable pub wakes_of : List Wake → Wakes

@@ -2,33 +2,33 @@
 ghost use Rattle.std.specs.Prelude.{◌≡◌};
 ghost use Rattle.table.specs.Answers.{number_of, refusal_of};
 
-#[derive(Clone, Copy)]
+#[derive(Clone, Copy, PartialEq, Eq)]
 pub enum Answer {
-    Ok,
-    ReceiverUnknown,
-    ReceiverNotReady,
-    ReceiverBufferOverflow,
-    BufferEmpty,
-    BufferOverflow,
-    ParameterError,
-    NoTask,
-    NotFound,
-    CommandPrivileged,
-    NoUser,
-    IllegalInput,
-    TaskListOverflow,
-    TimeCondition,
-    NoSemaphoreNumber,
-    NoPoolInit,
-    PoolOverflow,
-    DataLengthFault,
-    PoolLengthFault,
-    Suspended,
-    NotReady,
-    Started,
-    BadConfig,
-    BadLog,
-    NotHolder,
+    Ok = 0,
+    ReceiverUnknown = 1,
+    ReceiverNotReady = 2,
+    ReceiverBufferOverflow = 3,
+    BufferEmpty = 4,
+    BufferOverflow = 5,
+    ParameterError = 6,
+    NoTask = 7,
+    NotFound = 8,
+    CommandPrivileged = 9,
+    NoUser = 10,
+    IllegalInput = 11,
+    TaskListOverflow = 13,
+    TimeCondition = 14,
+    NoSemaphoreNumber = 15,
+    NoPoolInit = 16,
+    PoolOverflow = 17,
+    DataLengthFault = 18,
+    PoolLengthFault = 19,
+    Suspended = 32,
+    NotReady = 33,
+    Started = 34,
+    BadConfig = 35,
+    BadLog = 36,
+    NotHolder = 37,
 }
 
 impl Answer {
@@ -36,40 +36,16 @@ impl Answer {
     pub fn number(self) -> u8
         ensures { result ≡ number_of self }
     {
-        match self {
-            Answer::Ok => 0,
-            Answer::ReceiverUnknown => 1,
-            Answer::ReceiverNotReady => 2,
-            Answer::ReceiverBufferOverflow => 3,
-            Answer::BufferEmpty => 4,
-            Answer::BufferOverflow => 5,
-            Answer::ParameterError => 6,
-            Answer::NoTask => 7,
-            Answer::NotFound => 8,
-            Answer::CommandPrivileged => 9,
-            Answer::NoUser => 10,
-            Answer::IllegalInput => 11,
-            Answer::TaskListOverflow => 13,
-            Answer::TimeCondition => 14,
-            Answer::NoSemaphoreNumber => 15,
-            Answer::NoPoolInit => 16,
-            Answer::PoolOverflow => 17,
-            Answer::DataLengthFault => 18,
-            Answer::PoolLengthFault => 19,
-            Answer::Suspended => 32,
-            Answer::NotReady => 33,
-            Answer::Started => 34,
-            Answer::BadConfig => 35,
-            Answer::BadLog => 36,
-            Answer::NotHolder => 37,
-        }
+        self as u8
     }
 
     // Any answer but 0, 5, 14 and 32.
     pub fn is_refusal(self) -> bool
         ensures { result ≡ refusal_of self }
     {
-        let number = self.number();
-        (number != 0) & (number != 5) & (number != 14) & (number != 32)
+        !matches!(
+            self,
+            Answer::Ok | Answer::BufferOverflow | Answer::TimeCondition | Answer::Suspended
+        )
     }
 }

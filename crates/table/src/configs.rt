@@ -1,11 +1,11 @@
 // What a plant configures: its levels, places, card and privileged processes.
 ghost use Rattle.std.specs.Prelude.{◌≡◌};
-ghost use Rattle.table.specs.Configuration.{levels_good, scheduler_good, places_good, inputs_of, configured_of, privileged_good, apart_of, all_privileged_good, good_of, receiver_of, sender_of, of_level, has_input, first_place, privilege_of, owner_of};
+ghost use Rattle.table.specs.Configuration.{levels_good, scheduler_good, places_good, inputs_of, configured_of, privileged_good, apart_of, all_privileged_good, good_of, receiver_of, sender_of, of_level, has_input, privilege_of, owner_of};
 
 use day::TimeOfDay;
 use process::Target;
 
-// Stands for the level of a privileged place that is not used.
+// Stands for the level of a privileged place that is not used. No Option: the call log keeps this byte, and `unused` (specs/Configuration) reads it.
 pub const UNUSED: u8 = 255;
 
 // -1 as a 16-bit word: all, where one level could stand.
@@ -42,13 +42,6 @@ pub struct Config {
     pub pool: u16,
 }
 
-// Whether a privileged place was found.
-#[derive(Clone, Copy)]
-pub enum Privilege {
-    Owns(Privileged),
-    Nobody,
-}
-
 // Whose orders a cancel names: -1 everybody's, 0 to 11 that level's, configured or not.
 pub fn sender(word: u16) -> Target
     ensures { result ≡ sender_of word }
@@ -74,19 +67,17 @@ impl Privileged {
     fn has_input(self, input: u16) -> bool
         ensures { result ≡ has_input input self }
     {
-        let first = self.first as u16;
-        let last = self.last as u16;
-        (self.level != UNUSED) & (first <= input) & (input <= last)
+        (self.level != UNUSED) & (u16::from(self.first)..=u16::from(self.last)).contains(&input)
     }
 
     // Level, run and card fit, or the place is not used.
     fn good(self, config: Config) -> bool
         ensures { result ≡ privileged_good config self }
     {
-        let level = self.level as u16;
-        let last = self.last as u16;
         (self.level == UNUSED)
-            | (config.has_level(level) & (self.first <= self.last) & (last < config.inputs()))
+            | (config.has_level(u16::from(self.level))
+                & (self.first <= self.last)
+                & (u16::from(self.last) < config.inputs()))
     }
 
     // Two places are of two processes, and their runs do not meet.
@@ -107,7 +98,7 @@ impl Config {
     {
         let lowest = self.lowest as u32;
         let processes = self.processes as u32;
-        (1 <= processes) & (processes <= 11) & (lowest + processes <= 12)
+        (1..=11).contains(&processes) & (lowest + processes <= 12)
     }
 
     // One of the levels L to L + P - 1; no level is above 11.
@@ -117,7 +108,7 @@ impl Config {
         let lowest = self.lowest as u32;
         let processes = self.processes as u32;
         let level = level as u32;
-        (lowest <= level) & (level < lowest + processes) & (level <= 11)
+        (lowest..lowest + processes).contains(&level) & (level <= 11)
     }
 
     // Whom a call names as its receiver: -1 all, a configured level that one.
@@ -133,43 +124,24 @@ impl Config {
         Target::Unknown
     }
 
-    // The first of the three privileged places of which this is said.
-    fn first_place(self, first: bool, second: bool, third: bool) -> Privilege
-        ensures { result ≡ first_place self first second third }
-    {
-        let privileged = self.privileged;
-        if first {
-            return Privilege::Owns(privileged[0]);
-        }
-        if second {
-            return Privilege::Owns(privileged[1]);
-        }
-        if third {
-            return Privilege::Owns(privileged[2]);
-        }
-        Privilege::Nobody
-    }
-
     // The privileged place of a level.
-    pub fn privilege(self, level: u8) -> Privilege
+    pub fn privilege(self, level: u8) -> Option<Privileged>
         ensures { result ≡ privilege_of self level }
     {
-        let privileged = self.privileged;
-        let a = privileged[0];
-        let b = privileged[1];
-        let c = privileged[2];
-        self.first_place(a.is_of(level), b.is_of(level), c.is_of(level))
+        self.privileged
+            .iter()
+            .copied()
+            .find(|place| place.is_of(level))
     }
 
     // The privileged place that owns an input.
-    pub fn owner(self, input: u16) -> Privilege
+    pub fn owner(self, input: u16) -> Option<Privileged>
         ensures { result ≡ owner_of self input }
     {
-        let privileged = self.privileged;
-        let a = privileged[0];
-        let b = privileged[1];
-        let c = privileged[2];
-        self.first_place(a.has_input(input), b.has_input(input), c.has_input(input))
+        self.privileged
+            .iter()
+            .copied()
+            .find(|place| place.has_input(input))
     }
 
     // How many inputs the card has.
@@ -182,28 +154,22 @@ impl Config {
     fn scheduler_good(self) -> bool
         ensures { result ≡ scheduler_good self }
     {
-        let level = self.scheduler as u16;
-        let taken = self.has_level(level);
-        (level <= 11) & !taken
+        let taken = self.has_level(u16::from(self.scheduler));
+        (self.scheduler <= 11) & !taken
     }
 
     fn places_good(self) -> bool
         ensures { result ≡ places_good self }
     {
-        (1 <= self.places)
-            & (self.places <= 16)
-            & (1 <= self.orders)
-            & (self.orders <= 64)
+        (1..=16).contains(&self.places)
+            & (1..=64).contains(&self.orders)
             & ((self.card == 8) | (self.card == 16))
     }
 
     fn privileged_good(self) -> bool
         ensures { result ≡ all_privileged_good self }
     {
-        let privileged = self.privileged;
-        let a = privileged[0];
-        let b = privileged[1];
-        let c = privileged[2];
+        let [a, b, c] = self.privileged;
         a.good(self) & b.good(self) & c.good(self) & a.apart(b) & a.apart(c) & b.apart(c)
     }
 
@@ -211,12 +177,11 @@ impl Config {
     pub fn good(self) -> bool
         ensures { result ≡ good_of self }
     {
-        let clock = self.clock;
         self.levels_good()
             & self.scheduler_good()
             & self.places_good()
             & self.privileged_good()
-            & (clock.milliseconds < day::DAY)
+            & (self.clock.milliseconds < day::DAY)
             & (self.pool <= pool::LARGEST)
     }
 }

@@ -47,11 +47,14 @@ pub struct Table {
 #[derive(Clone, Copy)]
 pub enum Shown {
     Nothing,
-    Message,
-    Inputs,
-    Number,
-    // So many bytes of the pool, as the number says.
-    Data,
+    // A message that is handed over.
+    Message(Message),
+    // The inputs on which events came.
+    Inputs(InputSet),
+    // The milliseconds of READTIME, how many orders were carried out, or who holds what RELSEMA could not release.
+    Number(u64),
+    // So many bytes of the pool.
+    Data(u64),
 }
 
 // The one result of every call, event and tick.
@@ -59,13 +62,6 @@ pub enum Shown {
 pub struct Outcome {
     pub answer: Answer,
     pub shown: Shown,
-    // Sixteen zeros where no message is shown.
-    pub message: Message,
-    // Empty where no inputs are shown.
-    pub inputs: InputSet,
-    // The milliseconds of READTIME, how many orders were carried out, how many bytes GETPOOL answers with, or who holds what RELSEMA could not
-    // release; else 0.
-    pub number: u64,
     pub wakes: Wakes,
     pub table: Table,
 }
@@ -75,9 +71,6 @@ pub struct Outcome {
 pub struct Said {
     pub answer: Answer,
     pub shown: Shown,
-    pub message: Message,
-    pub inputs: InputSet,
-    pub number: u64,
     pub wakes: Wakes,
 }
 
@@ -85,18 +78,10 @@ impl Outcome {
     pub fn said(self) -> Said
         ensures { result ≡ said_of self }
     {
-        let answer = self.answer;
-        let shown = self.shown;
-        let message = self.message;
-        let inputs = self.inputs;
-        let wakes = self.wakes;
         Said {
-            answer,
-            shown,
-            message,
-            inputs,
-            number: self.number,
-            wakes,
+            answer: self.answer,
+            shown: self.shown,
+            wakes: self.wakes,
         }
     }
 }
@@ -113,10 +98,9 @@ impl Table {
     pub fn fresh(config: Config) -> Table
         ensures { result ≡ fresh_of config }
     {
-        let clock = config.clock;
         Table {
             config,
-            clock,
+            clock: config.clock,
             scheduler: Scheduler::STOPPED,
             processes: [Process::fresh(); 12],
             orders: Orders::none(),
@@ -134,9 +118,6 @@ impl Table {
         Outcome {
             answer,
             shown: Shown::Nothing,
-            message: Message::ZEROS,
-            inputs: InputSet::empty(),
-            number: 0,
             wakes: Wakes::none(),
             table: self,
         }

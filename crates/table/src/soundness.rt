@@ -13,79 +13,57 @@ use semaphores::FREE;
 use semaphores::queues::{Queue, Waiter};
 
 // How often a level is queued.
-fn times(queue: Queue, level: u8) -> usize
-    ensures { result ≡ times_of level queue }
+fn times(queue: &Queue, level: u8) -> usize
+    ensures { result ≡ times_of level queue.now }
 {
-    let waiters = queue.waiters;
-    let count = common::least(queue.count, 12);
-    let mut found = 0;
-    let mut at = 0;
-    while at < count {
-        let waiter = waiters[at];
-        found += common::one_if(waiter.level == level);
-        at += 1;
-    }
-    found
+    queue
+        .waiters
+        .iter()
+        .take(queue.count)
+        .filter(|waiter| waiter.level == level)
+        .count()
 }
 
 // A process at a configured level: its numbers within their limits, no message kept while it waits for one, and queued
 // exactly where it waits for a semaphore.
-fn level_sound(config: Config, queue: Queue, level: u8, process: Process) -> bool
-    ensures { result ≡ level_sound config queue level process }
+fn level_sound(config: Config, queue: &Queue, level: u8, process: &Process) -> bool
+    ensures { result ≡ level_sound config queue.now level process.now }
 {
-    let state = process.state;
-    let buffer = process.buffer;
-    let kept = buffer.count;
-    let places = config.places as usize;
-    let waits = state.is(State::WaitingForMessage);
-    let queued = common::one_if(state.is(State::WaitingForSemaphore));
-    let configured = config.has_level(level as u16);
-    !configured
+    let kept = process.buffer.count;
+    let waits = process.state == State::WaitingForMessage;
+    let queued = common::one_if(process.state == State::WaitingForSemaphore);
+    !config.has_level(u16::from(level))
         | ((process.priority <= 63)
-            & (kept <= places)
+            & (kept <= usize::from(config.places))
             & (!waits | (kept == 0))
             & (times(queue, level) == queued))
 }
 
-fn levels_sound(config: Config, queue: Queue, processes: [Process; 12]) -> bool
-    ensures { result ≡ levels_sound config queue processes }
+fn levels_sound(config: Config, queue: &Queue, processes: &[Process; 12]) -> bool
+    ensures { result ≡ levels_sound config queue.now processes.now }
 {
-    let mut all = true;
-    let mut level: u8 = 0;
-    while level < 12 {
-        let process = processes[level as usize];
-        all = all & level_sound(config, queue, level, process);
-        level += 1;
-    }
-    all
+    (0u8..12).zip(processes).all(|(level, process)| level_sound(config, queue, level, process))
 }
 
-fn order_sound(config: Config, order: Order) -> bool
-    ensures { result ≡ order_sound config order }
+fn order_sound(config: Config, order: &Order) -> bool
+    ensures { result ≡ order_sound config order.now }
 {
-    let due = order.due;
     let named = config.has_level(order.sender as u16) & config.has_level(order.receiver as u16);
-    let within = (due.milliseconds < day::DAY)
-        & (1 <= order.every)
-        & (order.every <= day::DAY)
+    let within = (order.due.milliseconds < day::DAY)
+        & (1..=day::DAY).contains(&order.every)
         & (order.left <= 32_767);
     named & within
 }
 
-fn orders_sound(config: Config, orders: Orders) -> bool
-    ensures { result ≡ orders_sound config orders }
+fn orders_sound(config: Config, orders: &Orders) -> bool
+    ensures { result ≡ orders_sound config orders.now }
 {
-    let places = orders.places;
-    let count = common::least(orders.count, 64);
-    let mut all = true;
-    let mut at = 0;
-    while at < count {
-        let order = places[at];
-        all = all & order_sound(config, order);
-        at += 1;
-    }
-    let most = config.orders as usize;
-    (orders.count <= most) & all
+    let all = orders
+        .places
+        .iter()
+        .take(orders.count)
+        .all(|order| order_sound(config, order));
+    (orders.count <= usize::from(config.orders)) & all
 }
 
 fn holder_sound(config: Config, holder: u8) -> bool
@@ -94,44 +72,29 @@ fn holder_sound(config: Config, holder: u8) -> bool
     (holder == FREE) | config.has_level(holder as u16)
 }
 
-fn holders_sound(config: Config, holders: [u8; 96]) -> bool
-    ensures { result ≡ holders_sound config holders }
+fn holders_sound(config: Config, holders: &[u8; 96]) -> bool
+    ensures { result ≡ holders_sound config holders.now }
 {
-    let mut all = true;
-    let mut number: usize = 0;
-    while number < 96 {
-        all = all & holder_sound(config, holders[number]);
-        number += 1;
-    }
-    all
+    holders.iter().all(|holder| holder_sound(config, *holder))
 }
 
 // A waiter: a configured level, at a usable semaphore that is held.
-fn waiter_sound(config: Config, holders: [u8; 96], waiter: Waiter) -> bool
-    ensures { result ≡ waiter_sound config holders waiter }
+fn waiter_sound(config: Config, holders: &[u8; 96], waiter: &Waiter) -> bool
+    ensures { result ≡ waiter_sound config holders.now waiter.now }
 {
-    let number = waiter.number as u16;
-    if semaphores::usable(number) {
-        let at = number as usize;
-        let configured = config.has_level(waiter.level as u16);
-        (holders[at] != FREE) & configured
-    } else {
-        false
-    }
+    let at = usize::from(waiter.number);
+    semaphores::usable(u16::from(waiter.number))
+        && (holders[at] != FREE) & config.has_level(u16::from(waiter.level))
 }
 
-fn queue_sound(config: Config, holders: [u8; 96], queue: Queue) -> bool
-    ensures { result ≡ queue_sound config holders queue }
+fn queue_sound(config: Config, holders: &[u8; 96], queue: &Queue) -> bool
+    ensures { result ≡ queue_sound config holders.now queue.now }
 {
-    let waiters = queue.waiters;
-    let count = common::least(queue.count, 12);
-    let mut all = true;
-    let mut at = 0;
-    while at < count {
-        let waiter = waiters[at];
-        all = all & waiter_sound(config, holders, waiter);
-        at += 1;
-    }
+    let all = queue
+        .waiters
+        .iter()
+        .take(queue.count)
+        .all(|waiter| waiter_sound(config, holders, waiter));
     (queue.count <= 12) & all
 }
 
@@ -154,27 +117,21 @@ fn length_within(config: Config, length: u16) -> bool
 fn length_sound(config: Config, level: u8, length: u16) -> bool
     ensures { result ≡ length_sound config level length }
 {
-    let configured = config.has_level(level as u16);
-    !configured | length_within(config, length)
+    !config.has_level(u16::from(level)) | length_within(config, length)
 }
 
-fn lengths_sound(config: Config, stated: [u16; 12]) -> bool
-    ensures { result ≡ lengths_sound config stated }
+fn lengths_sound(config: Config, stated: &[u16; 12]) -> bool
+    ensures { result ≡ lengths_sound config stated.now }
 {
-    let mut all = true;
-    let mut level: u8 = 0;
-    while level < 12 {
-        all = all & length_sound(config, level, stated[level as usize]);
-        level += 1;
-    }
-    all
+    (0u8..12)
+        .zip(stated)
+        .all(|(level, length)| length_sound(config, level, *length))
 }
 
-fn pool_sound(config: Config, control: Control) -> bool
-    ensures { result ≡ pool_sound config control }
+fn pool_sound(config: Config, control: &Control) -> bool
+    ensures { result ≡ pool_sound config control.now }
 {
-    let stated = control.stated;
-    lengths_sound(config, stated) & length_within(config, control.common)
+    lengths_sound(config, &control.stated) & length_within(config, control.common)
 }
 
 // None of the breaks that document 01 lists.
@@ -182,22 +139,15 @@ pub fn sound(table: Table) -> bool
     ensures { result ≡ sound_of table }
 {
     let config = table.config;
-    let clock = table.clock;
-    let processes = table.processes;
-    let orders = table.orders;
-    let semaphores = table.semaphores;
-    let holders = semaphores.holders;
-    let queue = semaphores.queue;
-    let mask = table.mask;
-    let latch = table.latch;
-    let control = table.pool;
+    let holders = &table.semaphores.holders;
+    let queue = &table.semaphores.queue;
     config.good()
-        & (clock.milliseconds < day::DAY)
-        & levels_sound(config, queue, processes)
-        & orders_sound(config, orders)
+        & (table.clock.milliseconds < day::DAY)
+        & levels_sound(config, queue, &table.processes)
+        & orders_sound(config, &table.orders)
         & holders_sound(config, holders)
         & queue_sound(config, holders, queue)
-        & on_card(config, mask)
-        & on_card(config, latch)
-        & pool_sound(config, control)
+        & on_card(config, table.mask)
+        & on_card(config, table.latch)
+        & pool_sound(config, &table.pool)
 }

@@ -10,9 +10,9 @@ use process::marking::Told;
 #[derive(Clone, Copy)]
 pub enum Woken {
     // A message, which is handed over with one mark told.
-    ByMessage(Told),
+    ByMessage(Told, Message),
     // An event on one of its inputs.
-    ByEvent,
+    ByEvent(InputSet),
     // A semaphore that it waited for is its own now.
     ByHandover,
 }
@@ -21,13 +21,9 @@ pub enum Woken {
 pub struct Wake {
     pub level: u8,
     pub woken: Woken,
-    // The message it wakes by; else sixteen zeros.
-    pub message: Message,
-    // The inputs it wakes by; else none.
-    pub inputs: InputSet,
 }
 
-// In order: the first at place 0. Twelve are enough, since a process wakes at most once.
+// In order: the first at place 0. Twelve are enough, since a process wakes at most once. An array and a count, since there is no heap.
 #[derive(Clone, Copy)]
 pub struct Wakes {
     pub wakes: [Wake; 12],
@@ -38,20 +34,16 @@ impl Wake {
     // What lies in a free place.
     pub const NOBODY: Wake = Wake {
         level: 0,
-        woken: Woken::ByEvent,
-        message: Message::ZEROS,
-        inputs: InputSet { words: [0; 4] },
+        woken: Woken::ByEvent(InputSet { words: [0; 4] }),
     };
 
     // The answer number with which it wakes.
     pub fn number(self) -> u8
         ensures { result ≡ wake_number_of self }
     {
-        let woken = self.woken;
-        match woken {
-            Woken::ByMessage(told) => told.number(),
-            Woken::ByEvent => 0,
-            Woken::ByHandover => 0,
+        match self.woken {
+            Woken::ByMessage(told, _) => told.number(),
+            Woken::ByEvent(_) | Woken::ByHandover => 0,
         }
     }
 }

@@ -7,12 +7,12 @@ use native.Mathlib.Omega.{arith}
 use lib.Dec.{eqb, leb, ltb}
 use lib.ListN.{length, length-append}
 use borrow.Author.Tests.{leb-true, lt-ltb, le-leb}
+use Rattle.std.specs.Prelude.{Option}
 use Rattle.common.specs.Every.{every}
 use Rattle.common.proofs.Cases.{by_pick, both, both_true}
 use Rattle.day.specs.declared.TimeOfDay.{TimeOfDay}
 use Rattle.day.specs.TimeOfDay.{day, forward_of}
 use Rattle.day.proofs.Forward.{forward_within}
-use Rattle.orders.specs.declared.Onward.{Onward}
 use Rattle.orders.specs.declared.Order.{Order}
 use Rattle.orders.specs.declared.Orders.{Orders}
 use Rattle.orders.specs.Advance.{due_at, due_count_of, again_of, onward_of, left_of, lefts_of, advancing, advance_of}
@@ -47,7 +47,7 @@ module _ (c : Config) (now : TimeOfDay) where
   left_good : (x : Order) → order_sound c x ≡ true → (length (left_of (onward_of now x)) ≤ 1) × (every (order_sound c) (left_of (onward_of now x)) ≡ true)
   unfolding onward_of
   left_good x sound =
-      let good : Onward → Type 0 = (λ onward. (length (left_of onward) ≤ 1) × (every (order_sound c) (left_of onward) ≡ true)) in
+      let good : Option Order → Type 0 = (λ left. (length (left_of left) ≤ 1) × (every (order_sound c) (left_of left) ≡ true)) in
       by_pick good (due_at now x) _ _
       (by_pick good (eqb x.left 1) _ _ (omega arith, refl) (omega arith, rw (again_sound x sound)))
       (omega arith, rw sound)

@@ -7,8 +7,9 @@ use native.Mathlib.Omega.{arith}
 use lib.Dec.{eqb}
 use lib.ListN.{take}
 use borrow.Author.Tests.{eqb-true, eqb-false, ltb-true, not-true, not-false}
+use Rattle.std.specs.Prelude.{Some, None}
 use Rattle.common.specs.Keep.{keep_of}
-use Rattle.common.proofs.Cases.{by_test, never_both, both_true, either_true}
+use Rattle.common.proofs.Cases.{by_test, both_true, either_true}
 use Rattle.day.specs.TimeOfDay.{forward_of}
 use Rattle.day.specs.declared.TimeOfDay.{TimeOfDay}
 use Rattle.orders.specs.declared.Orders.{Orders}
@@ -17,6 +18,7 @@ use Rattle.orders.specs.Advance.{due_of, next_due_of}
 use Rattle.table.specs.declared.Scheduler.{Scheduler}
 use Rattle.table.specs.declared.Table.{Table}
 use Rattle.calls.specs.Levels.{with_clock, with_scheduler}
+use Rattle.ticking.specs.declared.Lull.{Lull}
 use Rattle.ticking.specs.Ticking.{Run, run, ticks_of, runs_on, none_due, clock_after, scheduler_after, is_lull, lull_of}
 use Rattle.ticking.proofs.Quieting.{ticks_none, Undue, undue_before, clock_none, clock_some, quiet_run, resting_run}
 
@@ -58,18 +60,19 @@ module _ (s : Scheduler) where
   stops_both off runs = not-false s.switch (rw runs at off)
 
 -- where it is no lull, the scheduler runs on
-pub no_lull_runs : (s : Scheduler) (o : Orders) (clock : TimeOfDay) (n : ℕ) → (lull_of s o clock n).holds ≡ false → (s.running ≡ true) × (s.switch ≡ false)
+pub no_lull_runs : (s : Scheduler) (o : Orders) (clock : TimeOfDay) (n : ℕ) → lull_of s o clock n ≡ None → (s.running ≡ true) × (s.switch ≡ false)
 unfolding lull_of is_lull
-no_lull_runs s o clock n fails = by_test (runs_on s) (runs_both s) (λ off. absurd (never_both (rw off) fails))
+no_lull_runs s o clock n none =
+    by_test (runs_on s) (runs_both s)
+    (λ off. let some = rw off at none in let z : ◌≡◌ {A = ℕ} 0 1 = cc in absurd (omega arith))
 
 -- ---- a lull
 
--- the ticks of a lull, one after the other, come to it
-pub lull_run : (t : Table) (n : ℕ) → (lull_of t.scheduler t.orders t.clock n).holds ≡ true
-    → ticks_of n t
-    ≡ run 0 [] (with_scheduler (with_clock t (lull_of t.scheduler t.orders t.clock n).clock) (lull_of t.scheduler t.orders t.clock n).scheduler)
-unfolding lull_of is_lull
-lull_run t n holds =
+-- the ticks of a lull, one after the other, come to that
+lull_held : (t : Table) (n : ℕ) → is_lull t.scheduler t.orders t.clock n ≡ true
+    → ticks_of n t ≡ run 0 [] (with_scheduler (with_clock t (clock_after t.clock n)) (scheduler_after t.scheduler n))
+unfolding is_lull
+lull_held t n holds =
     let s = t.scheduler in
     let ended : TimeOfDay → Scheduler → Run = (λ clock scheduler. run 0 [] (with_scheduler (with_clock t clock) scheduler)) in
     by_test (runs_on s)
@@ -80,3 +83,14 @@ lull_run t n holds =
     ∙ sym (ap₂ ended (clock_none t.clock n (eqb-true n 0 none)) (scheduler_same s n (either_true (runs_on s) (eqb n 0) none))))
     (λ some. resting_run t (stops_both s off) n (omega (arith, eqb-false n 0 some))
     ∙ sym (ap₂ ended (clock_some t.clock n (eqb-false n 0 some)) (scheduler_stops s n (rw (off, some))))))
+
+-- so they come to the lull that is found
+pub lull_run : (t : Table) (n : ℕ) (lull : Lull) → lull_of t.scheduler t.orders t.clock n ≡ Some lull
+    → ticks_of n t ≡ run 0 [] (with_scheduler (with_clock t lull.clock) lull.scheduler)
+unfolding lull_of
+lull_run t n lull found =
+    by_test (is_lull t.scheduler t.orders t.clock n)
+    (λ holds. let some = rw holds at found in
+    let same : ◌≡◌ {A = Lull} (record { clock = clock_after t.clock n; scheduler = scheduler_after t.scheduler n }) lull = cc in
+    lull_held t n holds ∙ ap (λ (l : Lull). run 0 [] (with_scheduler (with_clock t l.clock) l.scheduler)) same)
+    (λ fails. let none = rw fails at found in let z : ◌≡◌ {A = ℕ} 0 1 = cc in absurd (omega arith))

@@ -9,16 +9,16 @@ use lib.Dec.{eqb, ltb}
 use lib.ListN.{length, get_or, take, drop, set, length-take, drop_of_length-le}
 use lib.Seq.{take_all, set-get_or}
 use borrow.Author.Tests.{eqb-true, eqb-false, eq-eqb, ne_eqb, ltb-true, ltb-false}
+use Rattle.std.specs.Prelude.{Some, None}
 use Rattle.common.specs.Choice.{pick}
 use Rattle.common.specs.Fold.{fold_of}
 use Rattle.common.specs.Keep.{keep_of}
-use Rattle.common.proofs.Cases.{by_test, by_pick, both_true, never_both}
+use Rattle.common.proofs.Cases.{by_test, by_pick, both_true}
 use Rattle.common.proofs.Fold.{fold_append}
 use Rattle.day.specs.declared.TimeOfDay.{TimeOfDay}
 use Rattle.day.specs.TimeOfDay.{forward_of}
 use Rattle.orders.specs.declared.Order.{Order}
 use Rattle.orders.specs.declared.Orders.{Orders}
-use Rattle.orders.specs.declared.Onward.{Onward}
 use Rattle.orders.specs.Orders.{standing_of, orders_of}
 use Rattle.orders.specs.Advance.{due_at, due_of, due_count_of, onward_of, left_of, lefts_of, advancing, advance_of, next_due, next_due_of, without_place_of}
 use Rattle.orders.proofs.Places.{standing_split, changed_to, changed_before, changed_behind, left_before, left_behind, without_beyond}
@@ -160,37 +160,43 @@ module _ (t : Table) (left : ℕ) (now : TimeOfDay) (processes : List Process) (
       end_through t left now (processes_after t.config.places now here processes) (wakes_after t.config.places now here processes wakes) p
       (carried + pick (due_at now here) 1 0) done rest
 
-  module _ (next : Onward) (so : next ≡ onward_of now here) where
-    turned : (p : Orders) → (due_at now here ≡ false → p ≡ o) → through_next p (take at (standing_of o) ++ left_of next) (drop (suc at) (standing_of o)) ≡ through_now
-    turned p same =
-        rw (standing_split o at long stands d, so)
-        (sym (through_turn t left now processes wakes carried (take at (standing_of o)) here (drop (suc at) (standing_of o)) o p same))
+  turned : (p : Orders) → (due_at now here ≡ false → p ≡ o)
+      → through_next p (take at (standing_of o) ++ left_of (onward_of now here)) (drop (suc at) (standing_of o)) ≡ through_now
+  turned p same =
+      rw (standing_split o at long stands d)
+      (sym (through_turn t left now processes wakes carried (take at (standing_of o)) here (drop (suc at) (standing_of o)) o p same))
 
-    -- where it is not due it stays, as it is
-    unchanged : due_at now here ≡ false → changed_to o at long stands next.order ≡ o
+  -- it becomes another
+  module _ (next : Order) (so : Some next ≡ onward_of now here) where
+    -- where it is not due, itself
+    unchanged : due_at now here ≡ false → changed_to o at long stands next ≡ o
     unfolding onward_of
-    unchanged later = rw (so, later) (ap (λ (l : List Order). record { places = l; count = o.count }) (set-get_or o.places at d))
+    unchanged later =
+        let itself = rw later at so in
+        let same : next ≡ here = cc in
+        rw same (ap (λ (l : List Order). record { places = l; count = o.count }) (set-get_or o.places at d))
 
-    later_stays : due_at now here ≡ false → next.stays ≡ true
-    unfolding onward_of
-    later_stays later = rw (so, later)
-
-    pub turn_stays : next.stays ≡ true
-        → through_next (changed_to o at long stands next.order) (take (at + 1) (standing_of (changed_to o at long stands next.order)))
-        (drop (at + 1) (standing_of (changed_to o at long stands next.order)))
+    pub turn_stays : through_next (changed_to o at long stands next) (take (at + 1) (standing_of (changed_to o at long stands next)))
+        (drop (at + 1) (standing_of (changed_to o at long stands next)))
         ≡ through_now
-    turn_stays stays =
-        ap₂ (through_next (changed_to o at long stands next.order))
-        (changed_before o at long stands next.order ∙ sym (ap (λ b. take at (standing_of o) ++ pick b (next.order ∷ []) []) stays))
-        (changed_behind o at long stands next.order)
-        ∙ turned (changed_to o at long stands next.order) unchanged
+    turn_stays =
+        ap₂ (through_next (changed_to o at long stands next))
+        (changed_before o at long stands next ∙ ap (λ n. take at (standing_of o) ++ left_of n) so)
+        (changed_behind o at long stands next)
+        ∙ turned (changed_to o at long stands next) unchanged
 
-    pub turn_leaves : next.stays ≡ false → through_next (without_place_of at o) (take at (standing_of (without_place_of at o))) (drop at (standing_of (without_place_of at o))) ≡ through_now
-    turn_leaves leaves =
-        ap₂ (through_next (without_place_of at o))
-        (left_before o at long stands ∙ sym (append-nil (take at (standing_of o))) ∙ sym (ap (λ b. take at (standing_of o) ++ pick b (next.order ∷ []) []) leaves))
-        (left_behind o at long stands)
-        ∙ turned (without_place_of at o) (λ later. absurd (never_both (later_stays later) leaves))
+  -- one that leaves is due
+  gone_due : None ≡ onward_of now here → due_at now here ≡ false → ⊥
+  unfolding onward_of
+  gone_due gone later = let itself = rw later at gone in let z : ◌≡◌ {A = ℕ} 0 1 = cc in omega arith
+
+  pub turn_leaves : None ≡ onward_of now here
+      → through_next (without_place_of at o) (take at (standing_of (without_place_of at o))) (drop at (standing_of (without_place_of at o))) ≡ through_now
+  turn_leaves gone =
+      ap₂ (through_next (without_place_of at o))
+      (left_before o at long stands ∙ sym (append-nil (take at (standing_of o))) ∙ ap (λ n. take at (standing_of o) ++ left_of n) gone)
+      (left_behind o at long stands)
+      ∙ turned (without_place_of at o) (λ later. absurd (gone_due gone later))
 
 -- ---- on to the next moment
 

@@ -1,5 +1,5 @@
 -- Document 01, "Timer orders": what a tick does.
-use Rattle.std.specs.Prelude.{Bool, true, false, not, ◌&&◌, ◌||◌, List, [], ◌++◌, map, ℕ, zero, suc, ◌+◌, eqb, ltb, length}
+use Rattle.std.specs.Prelude.{Bool, true, false, not, ◌&&◌, ◌||◌, List, [], ◌++◌, map, ℕ, zero, suc, ◌+◌, eqb, ltb, length, Option, Some, None}
 use Rattle.common.specs.Choice.{pick}
 use Rattle.day.specs.declared.TimeOfDay.{TimeOfDay}
 use Rattle.day.specs.TimeOfDay.{forward_of}
@@ -98,6 +98,6 @@ scheduler_after s n = pick (runs_on s || eqb n 0) s (record { running = false; s
 unfoldable pub is_lull : Scheduler → Orders → TimeOfDay → ℕ → Bool
 is_lull s o clock n = pick (runs_on s) (none_due o clock n) true
 
--- what the next n ticks come to where they carry out no order
-unfoldable pub lull_of : Scheduler → Orders → TimeOfDay → ℕ → Lull
-lull_of s o clock n = record { holds = is_lull s o clock n; clock = clock_after clock n; scheduler = scheduler_after s n }
+-- what the next n ticks come to, if they carry out no order
+unfoldable pub lull_of : Scheduler → Orders → TimeOfDay → ℕ → Option Lull
+lull_of s o clock n = pick (is_lull s o clock n) (Some (record { clock = clock_after clock n; scheduler = scheduler_after s n })) None

@@ -14,8 +14,6 @@ use table::{Outcome, Scheduler, Table};
 // What so many ticks come to where they carry out no order: a lull. The clock and the scheduler are all that changes.
 #[derive(Clone, Copy)]
 pub struct Lull {
-    // No order is carried out by any of them.
-    pub holds: bool,
     pub clock: TimeOfDay,
     pub scheduler: Scheduler,
 }
@@ -38,7 +36,7 @@ fn running_on(table: Table, count: u32) -> Outcome
     let mut left = count;
     // The orders before `at` are through with the moment that the clock reads, and the next that one of these is due is so far off.
     let mut nearest = orders.next_due(clock);
-    let mut standing = common::least(orders.count, orders::MOST_ORDERS);
+    let mut standing = orders.count.min(orders::MOST_ORDERS);
     let mut at = standing;
     while (0 < left) | (at < standing) {
         if at < standing {
@@ -46,31 +44,30 @@ fn running_on(table: Table, count: u32) -> Outcome
             let receiver = order.receiver;
             let is_due = order.is_due(clock);
             if is_due & (receiver < 12) {
-                let condition = order.condition;
-                let message = order.message;
                 let process = processes[receiver as usize];
-                let delivery = delivered(Origin::Timed, places, condition, message, process);
-                let fate = delivery.fate;
-                let served = delivery.process;
-                processes[receiver as usize] = served;
-                if posting::is_handed(fate) {
-                    wakes = posting::pushed(wakes, receiver, fate, message);
+                let delivery = delivered(
+                    Origin::Timed,
+                    places,
+                    order.condition,
+                    order.message,
+                    process,
+                );
+                processes[receiver as usize] = delivery.process;
+                if posting::is_handed(delivery.fate) {
+                    wakes = posting::pushed(wakes, receiver, delivery.fate, order.message);
                 }
             }
             carried += common::one_if(is_due) as u64;
-            let onward = order.onward(clock);
-            if onward.stays {
-                let next = onward.order;
-                let due = next.due;
+            if let Some(next) = order.onward(clock) {
                 orders.places[at] = next;
-                nearest = common::least_u32(nearest, clock.until(due));
+                nearest = nearest.min(clock.until(next.due));
                 at += 1;
             } else {
                 orders = orders.without_place(at);
                 standing -= 1;
             }
         } else {
-            let passed = common::least_u32(left - 1, nearest - 1);
+            let passed = (left - 1).min(nearest - 1);
             clock = clock.forward(passed as u64 + 1);
             left -= passed + 1;
             nearest = day::DAY;
@@ -95,14 +92,11 @@ fn runs_on(scheduler: Scheduler) -> bool
 }
 
 // No order is due at any of the next so many ticks. (Where none stands, none is looked for.)
+#[tactic(auto, unfolding(crate::specs::Ticking::none_due))]
 fn none_due(orders: Orders, clock: TimeOfDay, count: u32) -> bool
     ensures { result ≡ none_due orders clock count }
 {
-    if orders.count == 0 {
-        true
-    } else {
-        count < orders.next_due(clock)
-    }
+    (orders.count == 0) || count < orders.next_due(clock)
 }
 
 // What the clock reads after so many ticks.
@@ -125,34 +119,32 @@ fn scheduler_after(scheduler: Scheduler, count: u32) -> Scheduler
     } else {
         Scheduler {
             running: false,
-            switch: scheduler.switch,
+            ..scheduler
         }
     }
 }
 
 // No order is carried out by any of the next so many ticks.
+#[tactic(auto, unfolding(crate::specs::Ticking::is_lull))]
 fn is_lull(scheduler: Scheduler, orders: Orders, clock: TimeOfDay, count: u32) -> bool
     ensures { result ≡ is_lull scheduler orders clock count }
 {
-    if runs_on(scheduler) {
-        none_due(orders, clock, count)
-    } else {
-        true
-    }
+    !runs_on(scheduler) || none_due(orders, clock, count)
 }
 
-// What so many ticks come to where they carry out no order. These parts of a table are enough to tell, so that a lull is found before the table is
+// What so many ticks come to, if they carry out no order. These parts of a table are enough to tell, so that a lull is found before the table is
 // copied.
-pub fn lull_of(scheduler: Scheduler, orders: Orders, clock: TimeOfDay, count: u32) -> Lull
+#[tactic(auto, unfolding(crate::specs::Ticking::lull_of))]
+pub fn lull_of(scheduler: Scheduler, orders: Orders, clock: TimeOfDay, count: u32) -> Option<Lull>
     ensures { result ≡ lull_of scheduler orders clock count }
 {
-    let holds = is_lull(scheduler, orders, clock, count);
-    let clock = clock_after(clock, count);
-    let scheduler = scheduler_after(scheduler, count);
-    Lull {
-        holds,
-        clock,
-        scheduler,
+    if is_lull(scheduler, orders, clock, count) {
+        Some(Lull {
+            clock: clock_after(clock, count),
+            scheduler: scheduler_after(scheduler, count),
+        })
+    } else {
+        None
     }
 }
 
@@ -167,16 +159,10 @@ pub fn tick(table: Table) -> Outcome
 pub fn ticks(table: Table, count: u32) -> Outcome
     ensures { result ≡ outcome_of (run_effect (ticks_of count table)) }
 {
-    let scheduler = table.scheduler;
-    let orders = table.orders;
-    let clock = table.clock;
-    let found = lull_of(scheduler, orders, clock, count);
-    if found.holds {
-        let clock = found.clock;
-        let scheduler = found.scheduler;
+    if let Some(lull) = lull_of(table.scheduler, table.orders, table.clock, count) {
         let mut after = table;
-        after.clock = clock;
-        after.scheduler = scheduler;
+        after.clock = lull.clock;
+        after.scheduler = lull.scheduler;
         calls::with_number(after, 0, Wakes::none())
     } else {
         running_on(table, count)

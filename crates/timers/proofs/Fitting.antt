@@ -2,18 +2,17 @@
 use mathlib.Core.Path.{◌≡◌}
 use mathlib.Core.List.{List}
 use Prim.Native.Nat.{ℕ, ◌≤◌}
+use Rattle.std.specs.Prelude.{Ok}
 use Rattle.process.specs.declared.Process.{Process}
 use Rattle.table.specs.declared.configs.Config.{Config}
 use Rattle.table.proofs.Configured.{configured_level}
-use Rattle.calls.specs.declared.Verdict.TheVariants.{Passed}
 use Rattle.calls.proofs.Obeying.{last_passed}
-use Rattle.timers.specs.declared.Moment.{Moment}
 use Rattle.timers.specs.declared.NewOrder.{NewOrder}
-use Rattle.timers.specs.Timers.{schedule_verdict}
+use Rattle.timers.specs.Timers.{Moment, schedule_verdict}
 
 -- a receiver that is let through is a level
 pub receiver_fits : (c : Config) (processes : List Process) (caller : ℕ) (s : NewOrder) (moment : Moment)
-    → schedule_verdict c processes caller s moment ≡ Passed → s.receiver ≤ 11
+    → schedule_verdict c processes caller s moment ≡ Ok tt → s.receiver ≤ 11
 receiver_fits c processes caller s moment passed =
     let fourth = last_passed _ _ _ passed in
     let third = last_passed _ _ _ fourth.0 in

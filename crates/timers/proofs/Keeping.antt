@@ -7,6 +7,8 @@ use native.Mathlib.Omega.{arith}
 use lib.Dec.{eqb, ltb}
 use lib.ListN.{length, length-set}
 use borrow.Author.Tests.{leb-false, ltb-true, lt-ltb, le-leb, not-true}
+use Rattle.std.specs.Prelude.{Ok}
+use Rattle.std.specs.Prelude.{Result}
 use Rattle.common.specs.Every.{every}
 use Rattle.common.specs.Keep.{keep_of}
 use Rattle.common.proofs.Cases.{by_test, by_pick}
@@ -15,10 +17,10 @@ use Rattle.common.proofs.Parts.{part_keep}
 use Rattle.day.specs.declared.TimeOfDay.{TimeOfDay}
 use Rattle.day.specs.TimeOfDay.{day, forward_of}
 use Rattle.day.proofs.Forward.{forward_within}
-use Rattle.orders.specs.declared.Cancel.{Cancel}
+use Rattle.orders.specs.declared.NotCancelled.{NotCancelled}
 use Rattle.orders.specs.declared.Order.{Order}
 use Rattle.orders.specs.declared.Orders.{Orders}
-use Rattle.orders.specs.Cancel.{how_many_of, without_of, removed_of, cancel_of as orders_cancelled}
+use Rattle.orders.specs.Cancel.{how_many_of, without_of, removed_of, after_cancel, cancel_of as orders_cancelled}
 use Rattle.orders.specs.Moments.{interval_of, delay_of}
 use Rattle.orders.specs.Orders.{standing_of, push_of, accept_of}
 use Rattle.orders.specs.Timer.{stays_after}
@@ -33,13 +35,11 @@ use Rattle.table.specs.Configuration.{configured_of, receiver_of, sender_of}
 use Rattle.table.specs.Sound.{order_sound, orders_sound}
 use Rattle.table.specs.Words.{negative16}
 use Rattle.table.proofs.Ordered.{every_append, every_part, orders_count, orders_standing, standing_few, standing_sound, made_places, made_sound}
-use Rattle.calls.specs.declared.Verdict.TheVariants.{Passed}
 use Rattle.calls.specs.Levels.{process_at}
 use Rattle.calls.proofs.Keeping.{Steady, Keeps, keeps_obeyed, passed_caller, steady_orders, steady_scheduler}
 use Rattle.calls.proofs.Obeying.{last_passed}
-use Rattle.timers.specs.declared.Moment.{Moment}
 use Rattle.timers.specs.declared.NewOrder.{NewOrder}
-use Rattle.timers.specs.Timers.{moment_of, first_by, order_of, ordered, schedule_verdict, schedule_of, cancelled_of, cancel_schedule_of, shutdown_of, start_scheduler_of, read_time_of}
+use Rattle.timers.specs.Timers.{Moment, moment_of, first_by, order_of, ordered, schedule_verdict, schedule_of, cancelled_of, cancel_schedule_of, shutdown_of, start_scheduler_of, read_time_of}
 
 -- ---- orders that are sound stay so
 
@@ -79,16 +79,16 @@ module _ (c : Config) (o : Orders) (good : Good c o) where
       )
 
   -- a cancel that is done, or refused
-  removed_good : (sender : Target) (receiver : ℕ) → Good c (removed_of sender receiver o).orders
+  removed_good : (sender : Target) (receiver : ℕ) → Good c (after_cancel o (removed_of sender receiver o))
   unfolding removed_of
   removed_good sender receiver =
-      let kept : Cancel → Type 0 = (λ cancel. Good c cancel.orders) in
+      let kept : Result Orders NotCancelled → Type 0 = (λ cancelled. Good c (after_cancel o cancelled)) in
       by_pick kept (eqb o.count 0) _ _ good
       (by_pick kept (eqb (how_many_of All receiver o) 0) _ _ good
       (by_pick kept (eqb (how_many_of sender receiver o) 0) _ _ good (without_good sender receiver)))
 
   -- whomever it names
-  cancel_good : (sender receiver : Target) → Good c (orders_cancelled sender receiver o).orders
+  cancel_good : (sender receiver : Target) → Good c (after_cancel o (orders_cancelled sender receiver o))
   unfolding orders_cancelled
   cancel_good All All = good
   cancel_good All (Level receiver) = removed_good All receiver
@@ -122,7 +122,7 @@ ordered_keeps t x steady sound =
     (λ full. rw full steady)
 
 -- a new order whose checks passed is sound
-new_sound : (t : Table) (caller : ℕ) (new : NewOrder) (moment : Moment) → schedule_verdict t.config t.processes caller new moment ≡ Passed
+new_sound : (t : Table) (caller : ℕ) (new : NewOrder) (moment : Moment) → schedule_verdict t.config t.processes caller new moment ≡ Ok tt
     → order_sound t.config (order_of t.clock caller new.receiver moment new) ≡ true
 new_sound t caller new moment passed =
     let starts = last_passed _ _ _ passed in

@@ -1,18 +1,17 @@
 -- Document 01, "Timer orders": the calls.
-use Rattle.std.specs.Prelude.{Bool, true, false, not, List, [], ◌∷◌, ℕ}
+use Rattle.std.specs.Prelude.{Bool, true, false, not, Option, Some, None, Result, Ok, Err, List, [], ◌∷◌, ℕ}
+use Rattle.std.specs.Result.{is_ok, result_unwrap_or}
 use Rattle.common.specs.Choice.{pick}
 use Rattle.day.specs.declared.Fields.{Fields}
-use Rattle.day.specs.declared.Made.{Made}
-use Rattle.day.specs.declared.Made.TheVariants.{Time, BadMillisecond, BadSecond, BadMinute, BadHour}
+use Rattle.day.specs.declared.BadField.{BadField}
 use Rattle.day.specs.declared.TimeOfDay.{TimeOfDay}
 use Rattle.day.specs.Fields.{made_of}
 use Rattle.day.specs.TimeOfDay.{forward_of}
-use Rattle.orders.specs.declared.Cancel.{Cancel}
-use Rattle.orders.specs.declared.Cancelled.{Cancelled}
-use Rattle.orders.specs.declared.Cancelled.TheVariants.{BadSender, UnknownReceiver, NoOrder, NotFound, NotTheirs, Done}
-use Rattle.orders.specs.declared.First.{First}
+use Rattle.orders.specs.declared.NotCancelled.{NotCancelled}
+use Rattle.orders.specs.declared.NotCancelled.TheVariants.{BadSender, UnknownReceiver, NoOrder, NotFound, NotTheirs}
 use Rattle.orders.specs.declared.Order.{Order}
-use Rattle.orders.specs.Cancel.{cancel_of as orders_cancelled}
+use Rattle.orders.specs.declared.Orders.{Orders}
+use Rattle.orders.specs.Cancel.{cancel_of as orders_cancelled, after_cancel}
 use Rattle.orders.specs.Moments.{interval_of, delay_of}
 use Rattle.orders.specs.Orders.{accept_of}
 use Rattle.table.specs.declared.answers.Answer.{Answer}
@@ -22,35 +21,29 @@ use Rattle.table.specs.declared.Table.{Table}
 use Rattle.table.specs.Configuration.{configured_of, receiver_of, sender_of}
 use Rattle.table.specs.Words.{negative16, negative32}
 use Rattle.calls.specs.Effects.{Effect, number, refuse, done, waking, carrying}
-use Rattle.calls.specs.declared.Verdict.{Verdict}
 use Rattle.calls.specs.Levels.{process_at, with_orders, with_scheduler}
-use Rattle.calls.specs.Verdicts.{Check, check, after, by_caller, called}
-use Rattle.timers.specs.declared.Moment.{Moment}
-use Rattle.timers.specs.declared.Moment.TheVariants.{After, At, Bad}
+use Rattle.calls.specs.Verdicts.{Checked, Check, check, after, by_caller, called}
 use Rattle.timers.specs.declared.NewOrder.{NewOrder}
 
+-- when an order is first to be carried out: at a time of day or, where none is named, one interval from now; or the field that is out of its range
+abbrev pub Moment : Type 0
+Moment = Result (Option TimeOfDay) BadField
+
 -- "or, only if absolute, MSEC > 999, SEC > 59, MIN > 59, HOUR > 23"
-abbrev pub moment_made : Made → Moment
-moment_made (Time t) = At t
-moment_made BadMillisecond = Bad
-moment_made BadSecond = Bad
-moment_made BadMinute = Bad
-moment_made BadHour = Bad
+abbrev pub moment_made : Result TimeOfDay BadField → Moment
+moment_made (Ok t) = Ok (Some t)
+moment_made (Err field) = Err field
 
 unfoldable pub moment_of : Bool → Fields → Moment
-moment_of absolute time = pick absolute (moment_made (made_of time)) After
+moment_of absolute time = pick absolute (moment_made (made_of time)) (Ok None)
 
 -- no field is out of its range
 abbrev pub starts_when : Moment → Bool
-starts_when After = true
-starts_when (At t) = true
-starts_when Bad = false
+starts_when moment = is_ok moment
 
 -- (a bad moment is refused before it is asked)
-abbrev pub first_by : Moment → First
-first_by After = First.Relative
-first_by (At t) = First.At t
-first_by Bad = First.Relative
+abbrev pub first_by : Moment → Option TimeOfDay
+first_by moment = result_unwrap_or moment None
 
 -- an order of the caller's own, first due the first delay after the clock
 abbrev pub order_of : TimeOfDay → ℕ → ℕ → Moment → NewOrder → Order
@@ -65,11 +58,12 @@ order_of clock caller receiver moment s = record {
 }
 
 -- "then 13"
+abbrev pub entering : Option Orders → Table → Effect
+entering (Some orders) t = done (with_orders t orders)
+entering None t = refuse t Answer.TaskListOverflow
+
 unfoldable pub ordered : Table → Order → Effect
-ordered t order =
-    pick (accept_of t.orders t.config.orders order).accepted
-    (done (with_orders t (accept_of t.orders t.config.orders order).orders))
-    (refuse t Answer.TaskListOverflow)
+ordered t order = entering (accept_of t.orders t.config.orders order) t
 
 -- "SCHEDULE: .. Checks: 1; then 6 for `to` < 0, count < 0, or, only if absolute, ..; then 13."
 abbrev pub schedule_checks : Config → NewOrder → Moment → List Check
@@ -80,7 +74,7 @@ schedule_checks c s moment =
     ∷ check (starts_when moment) Answer.ParameterError
     ∷ []
 
-abbrev pub schedule_verdict : Config → List Process → ℕ → NewOrder → Moment → Verdict
+abbrev pub schedule_verdict : Config → List Process → ℕ → NewOrder → Moment → Checked
 schedule_verdict c processes caller s moment = after (by_caller c (process_at processes caller) caller) (schedule_checks c s moment)
 
 unfoldable pub schedule_of : Table → ℕ → NewOrder → Effect
@@ -88,19 +82,23 @@ schedule_of t caller s =
     called t caller (schedule_checks t.config s (moment_of s.absolute s.time))
     (ordered t (order_of t.clock caller s.receiver (moment_of s.absolute s.time) s))
 
--- 6 PARAMERROR, 1 RECUNKNOWN, 7 NOTASK, 8 NOTFOUND, 6 again, 0 OK
-abbrev pub cancel_answer : Cancelled → Answer
+-- 6 PARAMERROR, 1 RECUNKNOWN, 7 NOTASK, 8 NOTFOUND, 6 again
+abbrev pub cancel_answer : NotCancelled → Answer
 cancel_answer BadSender = Answer.ParameterError
 cancel_answer UnknownReceiver = Answer.ReceiverUnknown
 cancel_answer NoOrder = Answer.NoTask
 cancel_answer NotFound = Answer.NotFound
 cancel_answer NotTheirs = Answer.ParameterError
-cancel_answer Done = Answer.Ok
+
+-- or 0 OK
+abbrev pub cancelled_answer : Result Orders NotCancelled → Answer
+cancelled_answer (Ok left) = Answer.Ok
+cancelled_answer (Err why) = cancel_answer why
 
 -- "sender -1 or 0..11, else 6; receiver, 1; then 7, 8; then 6 where a sender is named and none of that receiver's orders is its own. Otherwise
 -- all matching orders leave."
-abbrev pub cancelling : Cancel → Table → Effect
-cancelling cancel t = waking (cancel_answer cancel.cancelled) [] (with_orders t cancel.orders)
+abbrev pub cancelling : Result Orders NotCancelled → Table → Effect
+cancelling cancelled t = waking (cancelled_answer cancelled) [] (with_orders t (after_cancel t.orders cancelled))
 
 unfoldable pub cancelled_of : Table → ℕ → ℕ → Effect
 cancelled_of t sender receiver = cancelling (orders_cancelled (sender_of sender) (receiver_of t.config receiver) t.orders) t

@@ -4,11 +4,11 @@
 
 ghost use Rattle.std.specs.Prelude.{◌≡◌};
 ghost use Rattle.calls.specs.Effects.{outcome_of};
-ghost use Rattle.timers.specs.Timers.{moment_of, starts_when, first_by, order_of, ordered, schedule_verdict, schedule_of, cancel_answer, cancelled_of, cancel_schedule_of, shutdown_of, start_scheduler_of, read_time_of};
+ghost use Rattle.timers.specs.Timers.{moment_of, order_of, ordered, schedule_verdict, schedule_of, cancel_answer, cancelled_of, cancel_schedule_of, shutdown_of, start_scheduler_of, read_time_of};
 
-use calls::Verdict;
-use day::{Fields, Made, TimeOfDay};
-use orders::{Cancelled, First, Order};
+use calls::check;
+use day::{BadField, Fields, TimeOfDay};
+use orders::{NotCancelled, Order};
 use process::buffers::Message;
 use process::{Condition, Process};
 use table::answers::Answer;
@@ -32,53 +32,18 @@ pub struct NewOrder {
 // The 32-bit words of numbers below 0 begin here.
 const LONG_NEGATIVE: u32 = 2_147_483_648;
 
-// When an order is first to be carried out, as far as its fields tell.
-#[derive(Clone, Copy)]
-pub enum Moment {
-    After,
-    At(TimeOfDay),
-    // A field is out of its range.
-    Bad,
-}
+// When an order is first to be carried out: at a time of day, one interval from now (None), or never, since a field is out of its range.
+pub type Moment = Result<Option<TimeOfDay>, BadField>;
 
 // The time of an order's fields, which count only if it is absolute.
+#[tactic(auto, unfolding(crate::specs::Timers::moment_of))]
 fn moment_of(absolute: bool, time: Fields) -> Moment
     ensures { result ≡ moment_of absolute time }
 {
     if absolute {
-        let made = TimeOfDay::made(time);
-        match made {
-            Made::Time(at) => Moment::At(at),
-            Made::BadMillisecond => Moment::Bad,
-            Made::BadSecond => Moment::Bad,
-            Made::BadMinute => Moment::Bad,
-            Made::BadHour => Moment::Bad,
-        }
+        Ok(Some(TimeOfDay::made(time)?))
     } else {
-        Moment::After
-    }
-}
-
-impl Moment {
-    // No field is out of its range.
-    fn is_good(self) -> bool
-        ensures { result ≡ starts_when self }
-    {
-        match self {
-            Moment::After => true,
-            Moment::At(_) => true,
-            Moment::Bad => false,
-        }
-    }
-
-    fn first(self) -> First
-        ensures { result ≡ first_by self }
-    {
-        match self {
-            Moment::After => First::Relative,
-            Moment::At(at) => First::At(at),
-            Moment::Bad => First::Relative,
-        }
+        Ok(None)
     }
 }
 
@@ -89,8 +54,7 @@ fn order(clock: TimeOfDay, caller: u8, receiver: u8, moment: Moment, new: NewOrd
     let condition = new.condition;
     let message = new.message;
     let every = orders::interval(new.to);
-    let first = moment.first();
-    let delay = orders::first_delay(clock, every, first);
+    let delay = orders::first_delay(clock, every, moment.unwrap_or(None));
     let due = clock.forward(delay as u64);
     Order {
         sender: caller,
@@ -107,11 +71,7 @@ fn order(clock: TimeOfDay, caller: u8, receiver: u8, moment: Moment, new: NewOrd
 fn entered(table: Table, order: Order) -> Outcome
     ensures { result ≡ outcome_of (ordered table order) }
 {
-    let config = table.config;
-    let orders = table.orders;
-    let accept = orders.accept(config.orders as usize, order);
-    if accept.accepted {
-        let orders = accept.orders;
+    if let Some(orders) = table.orders.accept(table.config.orders as usize, order) {
         let mut changed = table;
         changed.orders = orders;
         calls::answered(changed, Answer::Ok, Wakes::none())
@@ -127,17 +87,17 @@ fn schedule_checked(
     caller: u8,
     new: NewOrder,
     moment: Moment,
-) -> Verdict
+) -> Result<(), Answer>
     ensures { result ≡ schedule_verdict config processes caller new moment }
 {
     let process = calls::process_at(processes, caller as u16);
     let backward = LONG_NEGATIVE <= new.to;
     let negative = configs::NEGATIVE <= new.count;
-    calls::caller_checked(config, process, caller)
-        .check(config.has_level(new.receiver), Answer::ReceiverUnknown)
-        .check(!backward, Answer::ParameterError)
-        .check(!negative, Answer::ParameterError)
-        .check(moment.is_good(), Answer::ParameterError)
+    calls::caller_checked(config, process, caller)?;
+    check(config.has_level(new.receiver), Answer::ReceiverUnknown)?;
+    check(!backward, Answer::ParameterError)?;
+    check(!negative, Answer::ParameterError)?;
+    check(moment.is_ok(), Answer::ParameterError)
 }
 
 pub fn schedule(table: Table, caller: u8, new: NewOrder) -> Outcome
@@ -148,45 +108,42 @@ pub fn schedule(table: Table, caller: u8, new: NewOrder) -> Outcome
     let processes = table.processes;
     let time = new.time;
     let moment = moment_of(new.absolute, time);
-    let verdict = schedule_checked(config, processes, caller, new, moment);
-    match verdict {
-        Verdict::Refused(answer) => table.refused(answer),
-        Verdict::Passed => {
+    match schedule_checked(config, processes, caller, new, moment) {
+        Err(answer) => table.refused(answer),
+        Ok(()) => {
             let order = order(clock, caller, new.receiver as u8, moment, new);
             entered(table, order)
         }
     }
 }
 
-// The answer of CANCELSCHEDULE.
-fn cancel_answer(cancelled: Cancelled) -> Answer
-    ensures { result ≡ cancel_answer cancelled }
+// The answer of a CANCELSCHEDULE that is refused.
+fn cancel_answer(why: NotCancelled) -> Answer
+    ensures { result ≡ cancel_answer why }
 {
-    match cancelled {
-        Cancelled::BadSender => Answer::ParameterError,
-        Cancelled::UnknownReceiver => Answer::ReceiverUnknown,
-        Cancelled::NoOrder => Answer::NoTask,
-        Cancelled::NotFound => Answer::NotFound,
-        Cancelled::NotTheirs => Answer::ParameterError,
-        Cancelled::Done => Answer::Ok,
+    match why {
+        NotCancelled::BadSender => Answer::ParameterError,
+        NotCancelled::UnknownReceiver => Answer::ReceiverUnknown,
+        NotCancelled::NoOrder => Answer::NoTask,
+        NotCancelled::NotFound => Answer::NotFound,
+        NotCancelled::NotTheirs => Answer::ParameterError,
     }
 }
 
-// A cancel by a process that may call. Where it is refused, the orders that come back are those that stood.
+// A cancel by a process that may call. Only one that is done changes the table.
 fn cancelled(table: Table, sender: u16, receiver: u16) -> Outcome
     ensures { result ≡ outcome_of (cancelled_of table sender receiver) }
 {
-    let config = table.config;
-    let orders = table.orders;
     let from = configs::sender(sender);
-    let to = config.receiver(receiver);
-    let cancel = orders.cancel(from, to);
-    let cancelled = cancel.cancelled;
-    let orders = cancel.orders;
-    let mut changed = table;
-    changed.orders = orders;
-    let answer = cancel_answer(cancelled);
-    calls::answered(changed, answer, Wakes::none())
+    let to = table.config.receiver(receiver);
+    match table.orders.cancel(from, to) {
+        Ok(orders) => {
+            let mut changed = table;
+            changed.orders = orders;
+            calls::answered(changed, Answer::Ok, Wakes::none())
+        }
+        Err(why) => table.refused(cancel_answer(why)),
+    }
 }
 
 pub fn cancel_schedule(table: Table, caller: u8, sender: u16, receiver: u16) -> Outcome
@@ -195,10 +152,9 @@ pub fn cancel_schedule(table: Table, caller: u8, sender: u16, receiver: u16) -> 
     let config = table.config;
     let processes = table.processes;
     let process = calls::process_at(processes, caller as u16);
-    let verdict = calls::caller_checked(config, process, caller);
-    match verdict {
-        Verdict::Refused(answer) => table.refused(answer),
-        Verdict::Passed => cancelled(table, sender, receiver),
+    match calls::caller_checked(config, process, caller) {
+        Err(answer) => table.refused(answer),
+        Ok(()) => cancelled(table, sender, receiver),
     }
 }
 
@@ -209,10 +165,9 @@ pub fn shutdown(table: Table, caller: u8) -> Outcome
     let config = table.config;
     let processes = table.processes;
     let process = calls::process_at(processes, caller as u16);
-    let verdict = calls::caller_checked(config, process, caller);
-    match verdict {
-        Verdict::Refused(answer) => table.refused(answer),
-        Verdict::Passed => {
+    match calls::caller_checked(config, process, caller) {
+        Err(answer) => table.refused(answer),
+        Ok(()) => {
             let mut changed = table;
             changed.scheduler.switch = true;
             calls::answered(changed, Answer::Ok, Wakes::none())
@@ -239,9 +194,8 @@ pub fn read_time(table: Table, caller: u8) -> Outcome
     let clock = table.clock;
     let processes = table.processes;
     let process = calls::process_at(processes, caller as u16);
-    let verdict = calls::caller_checked(config, process, caller);
-    match verdict {
-        Verdict::Refused(answer) => table.refused(answer),
-        Verdict::Passed => calls::with_number(table, clock.milliseconds as u64, Wakes::none()),
+    match calls::caller_checked(config, process, caller) {
+        Err(answer) => table.refused(answer),
+        Ok(()) => calls::with_number(table, clock.milliseconds as u64, Wakes::none()),
     }
 }

@@ -1,8 +1,8 @@
-use Rattle.std.proofs.Common.{◌∙◌, sym, arith}
-use Rattle.common.proofs.Laying.{sets_end}
+use Rattle.std.proofs.Common.{ℕ, take, ◌∙◌, ap, arith}
+use Rattle.common.proofs.Laying.{sets_part}
 use Rattle.common.proofs.put.Goals as goal
 
 pub returns : goal.returns
 returns c =
-    let loop = c.loop-at in
-    sym (sets_end loop.out c.args.from c.args.bytes.now loop.at (omega arith)) ∙ loop.invariant.2
+    sets_part _ _ _ _ _ _ _ c.min-start.ensures c.min-count.ensures (omega arith)
+    (c.copy_from_slice.ensures.after ∙ ap (λ (n : ℕ). take n c.args.bytes.now) (omega arith))

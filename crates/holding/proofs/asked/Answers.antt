@@ -1,10 +1,10 @@
 use Rattle.holding.specs.Holding.{asked_of}
 use Rattle.holding.proofs.asked.Goals as goal
 
-pub returns-in-Refused : goal.returns-in-Refused
+pub returns-in-Err : goal.returns-in-Err
 unfolding asked_of
-returns-in-Refused c = rw (← c.caller_checked-verdict.ensures, c.in-Refused.is)
+returns-in-Err c = rw (← c.in-Err.ensures)
 
-pub returns-in-Passed : goal.returns-in-Passed
+pub returns-in-Ok : goal.returns-in-Ok
 unfolding asked_of
-returns-in-Passed c = rw (← c.caller_checked-verdict.ensures, c.in-Passed.is) c.requested.ensures
+returns-in-Ok c = rw (← c.in-Ok.ensures) c.requested.ensures

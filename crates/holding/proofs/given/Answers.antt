@@ -1,10 +1,10 @@
 use Rattle.holding.specs.Holding.{given_of}
 use Rattle.holding.proofs.given.Goals as goal
 
-pub returns-in-Refused : goal.returns-in-Refused
+pub returns-in-Err : goal.returns-in-Err
 unfolding given_of
-returns-in-Refused c = rw (c.alone.ensures, c.none.ensures, ← c.caller_checked-verdict.ensures, c.in-Refused.is)
+returns-in-Err c = rw (c.alone.ensures, c.none.ensures, ← c.in-Err.ensures)
 
-pub returns-in-Passed : goal.returns-in-Passed
+pub returns-in-Ok : goal.returns-in-Ok
 unfolding given_of
-returns-in-Passed c = rw (← c.caller_checked-verdict.ensures, c.in-Passed.is) c.released.ensures
+returns-in-Ok c = rw (← c.in-Ok.ensures) c.released.ensures

@@ -1,8 +1,7 @@
-use mathlib.Core.Path.{◌≡◌, ◌∙◌}
-use native.Mathlib.Omega.{arith}
-use borrow.Author.Rules.{rules}
-use lib.ListN.{length}
+use Rattle.std.proofs.Common.{◌≡◌, ◌∙◌, length, rules}
 use Rattle.common.proofs.Lists.{of_map}
+use Rattle.calls.specs.Decisions.{looked_at}
+use Rattle.interrupts.specs.Interrupts.{awaited_of}
 use Rattle.interrupts.proofs.Deciding.{awaited_all}
 use Rattle.interrupts.proofs.await_interrupt.Goals.{Start}
 use Rattle.interrupts.proofs.await_interrupt.Goals as goal
@@ -10,22 +9,8 @@ use Rattle.interrupts.proofs.await_interrupt.Goals as goal
 whole : (c : Start) → length c.args.table.processes ≡ 12
 whole c = search (rules, of_map)
 
-pub offset_bounds-after-at : goal.offset_bounds-after-at
-offset_bounds-after-at c = omega (arith, c.least-at.ensures)
-
-pub bounds-after-at : goal.bounds-after-at
-bounds-after-at c = omega (arith, c.least-at.ensures, whole (goal.at.bounds-after-at c).Start)
-
-pub offset_bounds-after-at-2 : goal.offset_bounds-after-at-2
-offset_bounds-after-at-2 c = omega (arith, c.least-at.ensures)
-
-pub bounds-after-at-2 : goal.bounds-after-at-2
-bounds-after-at-2 c = omega (arith, c.least-at.ensures, whole (goal.at.bounds-after-at-2 c).Start)
-
 pub returns : goal.returns
 returns c =
-    let least = c in
-    let start = least in
-    c.told.ensures
-    ∙ rw (c.awaited-decided.ensures, least.least-at.ensures)
-    (awaited_all start.args.table start.args.caller _ (whole (goal.at.returns c).Start))
+    let table = c.args.table in
+    let same : c.on_record.ensures.0 ≡ awaited_of table.config (looked_at table c.args.caller) table.mask table.latch c.args.caller = search (rules, c.on_record.ensures.1) in
+    c.on_record.ensures.2 ∙ rw same (awaited_all table c.args.caller _ (whole (goal.at.returns c).Start))

@@ -1,30 +1,30 @@
 use Rattle.interrupts.specs.Interrupts.{awaited_of}
 use Rattle.interrupts.proofs.awaited.Goals as goal
 
-pub returns-in-Refused : goal.returns-in-Refused
+pub returns-in-Err : goal.returns-in-Err
 unfolding awaited_of
-returns-in-Refused c = rw (c.alone.ensures, ← c.caller_checked-verdict.ensures, c.in-Refused.is)
+returns-in-Err c = rw (c.alone.ensures, ← c.caller_checked.ensures, c.in-Err.is)
 
-pub returns-in-Owns : goal.returns-in-Owns
+pub returns-in-Some : goal.returns-in-Some
 unfolding awaited_of
-returns-in-Owns c =
+returns-in-Some c =
     let passed = c in
     rw (
       c.awaiting.ensures,
-      ← passed.caller_checked-verdict.ensures,
-      passed.in-Passed.is,
-      ← passed.privilege-privilege.ensures,
-      c.in-Owns.is,
+      ← passed.caller_checked.ensures,
+      passed.in-Ok.is,
+      ← passed.privilege.ensures,
+      c.in-Some.is,
     )
 
-pub returns-in-Nobody : goal.returns-in-Nobody
+pub returns-in-None : goal.returns-in-None
 unfolding awaited_of
-returns-in-Nobody c =
+returns-in-None c =
     let passed = c in
     rw (
-      c.alone-in-Nobody.ensures,
-      ← passed.caller_checked-verdict.ensures,
-      passed.in-Passed.is,
-      ← passed.privilege-privilege.ensures,
-      c.in-Nobody.is,
+      c.alone-in-None.ensures,
+      ← passed.caller_checked.ensures,
+      passed.in-Ok.is,
+      ← passed.privilege.ensures,
+      c.in-None.is,
     )

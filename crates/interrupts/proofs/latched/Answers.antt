@@ -14,37 +14,37 @@ whole : (c : Start) → length c.args.table.processes ≡ 12
 whole c = search (rules, of_map)
 
 pub offset_bounds-after-at : goal.offset_bounds-after-at
-offset_bounds-after-at c = omega (arith, c.least-at.ensures)
+offset_bounds-after-at c = omega (arith, c.min-at.ensures)
 
 pub bounds-after-at : goal.bounds-after-at
-bounds-after-at c = omega (arith, c.least-at.ensures, whole (goal.at.bounds-after-at c).Start)
+bounds-after-at c = omega (arith, c.min-at.ensures, whole (goal.at.bounds-after-at c).Start)
 
-pub offset_bounds-after-at-in-Owns : goal.offset_bounds-after-at-in-Owns
-offset_bounds-after-at-in-Owns c = omega (arith, c.least-at.ensures)
+pub offset_bounds-after-at-in-Some : goal.offset_bounds-after-at-in-Some
+offset_bounds-after-at-in-Some c = omega (arith, c.min-at.ensures)
 
-pub bounds-after-at-in-Owns : goal.bounds-after-at-in-Owns
-bounds-after-at-in-Owns c = omega (
+pub bounds-after-at-in-Some : goal.bounds-after-at-in-Some
+bounds-after-at-in-Some c = omega (
   arith,
-  c.least-at.ensures,
-  whole (goal.at.bounds-after-at-in-Owns c).Start,
+  c.min-at.ensures,
+  whole (goal.at.bounds-after-at-in-Some c).Start,
 )
 
-pub returns-in-Owns : goal.returns-in-Owns
+pub returns-in-Some : goal.returns-in-Some
 unfolding latched_of
-returns-in-Owns c =
+returns-in-Some c =
     let opened = c in
     let least = opened in
     let owned = least in
     let made = owned in
     let start = made in
-    rw (← made.owner-owner.ensures, owned.in-Owns.is, ← made.insert-latch.ensures)
+    rw (← made.owner-owner.ensures, owned.in-Some.is, ← made.insert-latch.ensures)
     (c.answered.ensures
-    ∙ rw (opened.opened-opened.ensures, least.least-at.ensures)
-    (opened_all (with_latch start.args.table made.insert-latch.result) start.args.input _ _ (whole (goal.at.returns-in-Owns c).Start)))
+    ∙ rw (opened.opened-opened.ensures, least.min-at.ensures)
+    (opened_all (with_latch start.args.table made.insert-latch.result) start.args.input _ _ (whole (goal.at.returns-in-Some c).Start)))
 
-pub returns-in-Nobody : goal.returns-in-Nobody
+pub returns-in-None : goal.returns-in-None
 unfolding latched_of
-returns-in-Nobody c =
+returns-in-None c =
     let made = c in
-    rw (← made.owner-owner.ensures, c.in-Nobody.is, ← made.insert-latch.ensures)
-    (c.answered-in-Nobody.ensures ∙ rw (c.none.ensures, outcome_alone))
+    rw (← made.owner-owner.ensures, c.in-None.is, ← made.insert-latch.ensures)
+    (c.answered-in-None.ensures ∙ rw (c.none.ensures, outcome_alone))

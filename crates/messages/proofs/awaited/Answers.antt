@@ -2,22 +2,21 @@ use borrow.Author.Tests.{eq-eqb, ne_eqb}
 use Rattle.messages.specs.Receiving.{awaited_of}
 use Rattle.messages.proofs.awaited.Goals as goal
 
-pub returns-in-Refused : goal.returns-in-Refused
+pub returns-in-Err : goal.returns-in-Err
 unfolding awaited_of
-returns-in-Refused c = rw (c.alone.ensures, ← c.caller_checked-verdict.ensures, c.in-Refused.is)
+returns-in-Err c = rw (c.alone.ensures, ← c.in-Err.ensures)
 
-pub returns-then-buffer-eq0 : goal.returns-then-buffer-eq0
+pub returns-then-process-eq0 : goal.returns-then-process-eq0
 unfolding awaited_of
-returns-then-buffer-eq0 c =
+returns-then-process-eq0 c =
     rw (
-      c.alone-then-buffer-eq0.ensures,
+      c.alone-then-process-eq0.ensures,
       c.moved-process.ensures,
-      ← c.caller_checked-verdict.ensures,
-      c.in-Passed.is,
-      eq-eqb _ 0 c.if-buffer-eq0.true,
+      ← c.in-Ok.ensures,
+      eq-eqb _ 0 c.if-process-eq0.true,
     )
 
-pub returns-else-buffer-eq0 : goal.returns-else-buffer-eq0
+pub returns-else-process-eq0 : goal.returns-else-process-eq0
 unfolding awaited_of
-returns-else-buffer-eq0 c =
-    rw (c.took.ensures, ← c.caller_checked-verdict.ensures, c.in-Passed.is, ne_eqb _ 0 c.if-buffer-eq0.false)
+returns-else-process-eq0 c =
+    rw (c.took.ensures, ← c.in-Ok.ensures, ne_eqb _ 0 c.if-process-eq0.false)

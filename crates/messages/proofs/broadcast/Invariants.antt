@@ -1,6 +1,5 @@
 use mathlib.Core.Path.{◌≡◌}
-use Prim.Native.Nat.{ℕ, ◌≤◌, ◌-◌}
-use lib.ListN.{length}
+use Prim.Native.Nat.{ℕ, ◌-◌}
 use Rattle.common.specs.Fold.{fold_of}
 use Rattle.inputs.specs.InputSet.{rising_of}
 use Rattle.process.specs.declared.Condition.{Condition}
@@ -15,12 +14,7 @@ use Rattle.messages.proofs.broadcast.Given as goal
 abbrev pub sending : ℕ → Condition → Message → Posting → ℕ → Posting
 sending places condition message posting level = step_of Sent places posting (letter level condition message)
 
-abbrev pub invariant-loop-level : goal.invariant-loop-level
-invariant-loop-level l =
-    (l.level ≤ 12)
-    × (length l.posting.processes ≡ 12)
-    × (fold_of (sending l.places l.condition l.message) l.posting (rising_of (12 - l.level) l.level (configured_of l.config))
-    ≡ fold_of (sending l.places l.condition l.message) l.initial.posting (rising_of 12 0 (configured_of l.config)))
-
-abbrev pub decreases-loop-level : goal.decreases-loop-level
-decreases-loop-level l = 12 - l.level
+abbrev pub invariant-loop-receiver : goal.invariant-loop-receiver
+invariant-loop-receiver l =
+    fold_of (sending l.places l.condition l.message) l.posting (rising_of (12 - l.receiver) l.receiver (configured_of l.config))
+    ≡ fold_of (sending l.places l.condition l.message) l.initial.posting (rising_of 12 0 (configured_of l.config))

@@ -1,10 +1,10 @@
 use Rattle.messages.specs.Receiving.{received_of}
 use Rattle.messages.proofs.received.Goals as goal
 
-pub returns-in-Refused : goal.returns-in-Refused
+pub returns-in-Err : goal.returns-in-Err
 unfolding received_of
-returns-in-Refused c = rw (c.alone.ensures, ← c.caller_checked.ensures, ← c.check-verdict.ensures, c.in-Refused.is)
+returns-in-Err c = rw (c.alone.ensures, ← c.in-Err.ensures)
 
-pub returns-in-Passed : goal.returns-in-Passed
+pub returns-in-Ok : goal.returns-in-Ok
 unfolding received_of
-returns-in-Passed c = rw (c.took.ensures, ← c.caller_checked.ensures, ← c.check-verdict.ensures, c.in-Passed.is)
+returns-in-Ok c = rw (c.took.ensures, ← c.in-Ok.ensures)

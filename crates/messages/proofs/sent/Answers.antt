@@ -12,42 +12,30 @@ use Rattle.messages.proofs.sent.Goals as goal
 abbrev posted_for : Table → Target → Condition → Message → Posted
 posted_for t target condition message = send_posted t.config target condition message t.processes
 
-pub returns-then-wakes-eq0 : goal.returns-then-wakes-eq0
+pub returns-in-Waiting : goal.returns-in-Waiting
 unfolding sent_of
-returns-then-wakes-eq0 c =
-    let told = c in
-    let posted = told in
-    let start = posted in
+returns-in-Waiting c =
     c.refused.ensures
-    ∙ waiting_none _ _ _ (posted_for start.args.table start.args.target start.args.condition start.args.message)
-    posted.posted-posting.ensures told.in-Waiting.is c.if-wakes-eq0.true
+    ∙ waiting_none _ _ _ (posted_for c.args.table c.args.target c.args.condition c.args.message)
+    c.posted-full.ensures c.in-Waiting.is c.if-wakes-eq0.true
 
-pub returns-else-wakes-eq0 : goal.returns-else-wakes-eq0
+pub returns-in-Waiting-2 : goal.returns-in-Waiting-2
 unfolding sent_of
-returns-else-wakes-eq0 c =
-    let told = c in
-    let posted = told in
-    let start = posted in
+returns-in-Waiting-2 c =
     c.answered.ensures
-    ∙ waiting_some _ _ _ (posted_for start.args.table start.args.target start.args.condition start.args.message)
-    posted.posted-posting.ensures told.in-Waiting.is c.if-wakes-eq0.false
+    ∙ waiting_some _ _ _ (posted_for c.args.table c.args.target c.args.condition c.args.message)
+    c.posted-full.ensures c.in-Waiting-2.is c.if-wakes-eq0.false
 
-pub returns-then-posting : goal.returns-then-posting
+pub returns-in-Always : goal.returns-in-Always
 unfolding sent_of
-returns-then-posting c =
-    let told = c in
-    let posted = told in
-    let start = posted in
-    c.answered-then-posting.ensures
-    ∙ always_full _ _ _ (posted_for start.args.table start.args.target start.args.condition start.args.message)
-    posted.posted-posting.ensures told.in-Always.is c.if-posting.true
+returns-in-Always c =
+    c.answered-in-Always.ensures
+    ∙ always_full _ _ _ (posted_for c.args.table c.args.target c.args.condition c.args.message)
+    c.posted-full.ensures c.in-Always.is c.if-full.true
 
-pub returns-else-posting : goal.returns-else-posting
+pub returns-in-Always-2 : goal.returns-in-Always-2
 unfolding sent_of
-returns-else-posting c =
-    let told = c in
-    let posted = told in
-    let start = posted in
-    c.answered-else-posting.ensures
-    ∙ always_served _ _ _ (posted_for start.args.table start.args.target start.args.condition start.args.message)
-    posted.posted-posting.ensures told.in-Always.is c.if-posting.false
+returns-in-Always-2 c =
+    c.answered-in-Always-2.ensures
+    ∙ always_served _ _ _ (posted_for c.args.table c.args.target c.args.condition c.args.message)
+    c.posted-full.ensures c.in-Always-2.is c.if-full.false

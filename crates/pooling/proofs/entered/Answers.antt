@@ -1,10 +1,10 @@
 use Rattle.pooling.specs.Deciding.{entered_of}
 use Rattle.pooling.proofs.entered.Goals as goal
 
-pub returns-in-Refused : goal.returns-in-Refused
+pub returns-in-Err : goal.returns-in-Err
 unfolding entered_of
-returns-in-Refused c = rw (c.alone.ensures, ← c.caller_checked-verdict.ensures, c.in-Refused.is)
+returns-in-Err c = rw (c.alone.ensures, ← c.in-Err.ensures)
 
-pub returns-in-Passed : goal.returns-in-Passed
+pub returns-in-Ok : goal.returns-in-Ok
 unfolding entered_of
-returns-in-Passed c = rw (c.alone-in-Passed.ensures, c.begin.ensures, ← c.caller_checked-verdict.ensures, c.in-Passed.is)
+returns-in-Ok c = rw (c.alone-in-Ok.ensures, c.begin.ensures, ← c.in-Ok.ensures)

@@ -1,10 +1,10 @@
 use Rattle.pooling.specs.Deciding.{given_of}
 use Rattle.pooling.proofs.given_in.Goals as goal
 
-pub returns-in-Refused : goal.returns-in-Refused
+pub returns-in-Err : goal.returns-in-Err
 unfolding given_of
-returns-in-Refused c = rw (c.alone.ensures, c.in-Refused.is)
+returns-in-Err c = rw (c.alone.ensures, c.in-Err.is)
 
-pub returns-in-Passed : goal.returns-in-Passed
+pub returns-in-Ok : goal.returns-in-Ok
 unfolding given_of
-returns-in-Passed c = rw (c.alone-in-Passed.ensures, c.in-Passed.is)
+returns-in-Ok c = rw (c.alone-in-Ok.ensures, c.in-Ok.is)

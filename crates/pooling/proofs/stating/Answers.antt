@@ -1,31 +1,10 @@
 use Rattle.pooling.specs.Deciding.{stated_by}
 use Rattle.pooling.proofs.stating.Goals as goal
 
-pub returns-in-Refused : goal.returns-in-Refused
+pub returns-in-Err : goal.returns-in-Err
 unfolding stated_by
-returns-in-Refused c =
-    let made = c in
-    rw (
-      c.alone.ensures,
-      ← made.caller_checked.ensures,
-      ← made.has_begun.ensures,
-      ← made.check.ensures,
-      ← made.length_good.ensures,
-      ← made.check-verdict.ensures,
-      c.in-Refused.is,
-    )
+returns-in-Err c = rw (c.alone.ensures, ← c.in-Err.ensures)
 
-pub returns-in-Passed : goal.returns-in-Passed
+pub returns-in-Ok : goal.returns-in-Ok
 unfolding stated_by
-returns-in-Passed c =
-    let made = c in
-    rw (
-      c.alone-in-Passed.ensures,
-      c.state.ensures,
-      ← made.caller_checked.ensures,
-      ← made.has_begun.ensures,
-      ← made.check.ensures,
-      ← made.length_good.ensures,
-      ← made.check-verdict.ensures,
-      c.in-Passed.is,
-    )
+returns-in-Ok c = rw (c.alone-in-Ok.ensures, c.state.ensures, ← c.in-Ok.ensures)

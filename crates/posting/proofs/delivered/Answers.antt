@@ -3,4 +3,4 @@ use Rattle.posting.proofs.delivered.Goals as goal
 
 pub returns : goal.returns
 unfolding delivered_to
-returns c = rw (c.marked-process.ensures, c.deliver-delivery.ensures)
+returns c = rw (c.marked.ensures, c.deliver-fate.ensures)

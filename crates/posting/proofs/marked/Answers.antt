@@ -1,18 +1,18 @@
 use Rattle.posting.specs.Posting.{marked_by}
 use Rattle.posting.proofs.marked.Goals as goal
 
-pub returns-then-is_full : goal.returns-then-is_full
+pub returns-in-Sent : goal.returns-in-Sent
 unfolding marked_by
-returns-then-is_full c = rw (c.in-Sent.is, ← c.is_full.ensures, c.if-is_full.true) c.overflow_marked.ensures
+returns-in-Sent c = rw (c.in-Sent.is, ← c.is_full.ensures, c.if-is_full.true) c.overflow_marked.ensures
 
-pub returns-else-is_full : goal.returns-else-is_full
+pub returns-in-Sent-2 : goal.returns-in-Sent-2
 unfolding marked_by
-returns-else-is_full c = rw (c.in-Sent.is, ← c.is_full.ensures, c.if-is_full.false)
+returns-in-Sent-2 c = rw (c.in-Sent-2.is, ← c.is_full.ensures, c.if-is_full.false)
 
-pub returns-then-is_lost : goal.returns-then-is_lost
+pub returns-in-Timed : goal.returns-in-Timed
 unfolding marked_by
-returns-then-is_lost c = rw (c.in-Timed.is, ← c.is_lost.ensures, c.if-is_lost.true) c.time_marked.ensures
+returns-in-Timed c = rw (c.in-Timed.is, ← c.is_lost.ensures, c.if-is_lost.true) c.time_marked.ensures
 
-pub returns-else-is_lost : goal.returns-else-is_lost
+pub returns-in-Timed-2 : goal.returns-in-Timed-2
 unfolding marked_by
-returns-else-is_lost c = rw (c.in-Timed.is, ← c.is_lost.ensures, c.if-is_lost.false)
+returns-in-Timed-2 c = rw (c.in-Timed-2.is, ← c.is_lost.ensures, c.if-is_lost.false)

@@ -1,11 +1,10 @@
-use Rattle.std.proofs.Common.{◌≡◌, ◌+◌, ◌≤◌, length, ◌-◌}
-use Rattle.common.specs.Choice.{pick}
+use Rattle.std.proofs.Common.{◌≤◌, length, ◌-◌}
 use Rattle.rtmslog.proofs.read_all.Given as goal
 
--- the buffer keeps its length, and what was read has its place there
-abbrev pub invariant-loop-more : goal.invariant-loop-more
-invariant-loop-more g l = (length l.input ≡ length l.fn.input) × (l.length ≤ length l.fn.input)
+-- what was read has its place in the buffer
+abbrev pub invariant-loop-count : goal.invariant-loop-count
+invariant-loop-count g l = l.length ≤ length l.fn.input
 
 -- each turn brings something, or is the last
-abbrev pub decreases-loop-more : goal.decreases-loop-more
-decreases-loop-more g l = (length l.fn.input - l.length) + pick l.more 1 0
+abbrev pub decreases-loop-count : goal.decreases-loop-count
+decreases-loop-count g l = length l.fn.input - l.length

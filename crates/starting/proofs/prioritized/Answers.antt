@@ -1,6 +1,4 @@
-use mathlib.Core.Path.{◌∙◌, sym}
-use native.Mathlib.Omega.{arith}
-use lib.Dec.{leb}
+use Rattle.std.proofs.Common.{leb, sym, arith}
 use borrow.Author.Tests.{leb-true}
 use Rattle.calls.proofs.Obeying.{last_passed}
 use Rattle.starting.specs.Starting.{prioritized_of}
@@ -8,21 +6,13 @@ use Rattle.starting.proofs.prioritized.Goals as goal
 
 pub overflow_cast-priority : goal.overflow_cast-priority
 overflow_cast-priority c =
-    let priority = c.args.priority in
-    let passed = last_passed _ (leb priority 63) _ (sym c.check-verdict.ensures ∙ c.in-Passed.is) in
-    omega (arith, leb-true priority 63 passed.1)
+    let small = last_passed _ (leb c.args.priority 63) _ (sym c.in-Ok.ensures) in
+    omega (arith, leb-true c.args.priority 63 small.1)
 
-pub returns-in-Refused : goal.returns-in-Refused
+pub returns-in-Err : goal.returns-in-Err
 unfolding prioritized_of
-returns-in-Refused c = rw (c.alone.ensures, ← c.caller_checked.ensures, ← c.check-verdict.ensures, c.in-Refused.is)
+returns-in-Err c = rw (c.alone.ensures, ← c.in-Err.ensures)
 
-pub returns-in-Passed : goal.returns-in-Passed
+pub returns-in-Ok : goal.returns-in-Ok
 unfolding prioritized_of
-returns-in-Passed c =
-    rw (
-      c.alone-in-Passed.ensures,
-      c.with_priority-process.ensures,
-      ← c.caller_checked.ensures,
-      ← c.check-verdict.ensures,
-      c.in-Passed.is,
-    )
+returns-in-Ok c = rw (c.alone-in-Ok.ensures, c.with_priority.ensures, ← c.in-Ok.ensures)

@@ -1,8 +1,7 @@
-use mathlib.Core.Path.{◌≡◌, ◌∙◌}
-use native.Mathlib.Omega.{arith}
-use borrow.Author.Rules.{rules}
-use lib.ListN.{length}
+use Rattle.std.proofs.Common.{◌≡◌, ◌∙◌, length, rules}
 use Rattle.common.proofs.Lists.{of_map}
+use Rattle.calls.specs.Decisions.{looked_at}
+use Rattle.starting.specs.Starting.{started_of}
 use Rattle.starting.proofs.Deciding.{started_all}
 use Rattle.starting.proofs.start.Goals.{Start}
 use Rattle.starting.proofs.start.Goals as goal
@@ -10,20 +9,8 @@ use Rattle.starting.proofs.start.Goals as goal
 whole : (c : Start) → length c.args.table.processes ≡ 12
 whole c = search (rules, of_map)
 
-pub offset_bounds-after-at : goal.offset_bounds-after-at
-offset_bounds-after-at c = omega (arith, c.least-at.ensures)
-
-pub bounds-after-at : goal.bounds-after-at
-bounds-after-at c = omega (arith, c.least-at.ensures, whole (goal.at.bounds-after-at c).Start)
-
-pub offset_bounds-after-at-2 : goal.offset_bounds-after-at-2
-offset_bounds-after-at-2 c = omega (arith, c.least-at.ensures)
-
-pub bounds-after-at-2 : goal.bounds-after-at-2
-bounds-after-at-2 c = omega (arith, c.least-at.ensures, whole (goal.at.bounds-after-at-2 c).Start)
-
 pub returns : goal.returns
 returns c =
-    let start = c in
-    c.told.ensures
-    ∙ rw (c.started-decided.ensures, c.least-at.ensures) (started_all start.args.table start.args.level start.args.priority _ (whole (goal.at.returns c).Start))
+    let table = c.args.table in
+    let same : c.on_record.ensures.0 ≡ started_of table.config (looked_at table c.args.level) c.args.level c.args.priority = search (rules, c.on_record.ensures.1) in
+    c.on_record.ensures.2 ∙ rw same (started_all table c.args.level c.args.priority _ (whole (goal.at.returns c).Start))

@@ -22,7 +22,7 @@ use Rattle.calls.specs.Outcomes.{carries_number}
 use Rattle.ticking.specs.Ticking.{ticks_of}
 use Rattle.ticking.proofs.Quieting.{next_later, end_of, end_all}
 use Rattle.ticking.proofs.Moments.{at_now, orders_after, after_some, after_none, processes_after, wakes_after, length_after, served_record, served_wakes, served_quiet, unserved_record, unserved_wakes, turn_stays, turn_leaves, taken_all, through_begin, through_moment, through_end}
-use Rattle.ticking.proofs.running_on.Goals.{After-least_u32-passed, After-one_if, Start, Then-is_due-receiver, then-is_due-receiver+then-is_handed, then-is_due-receiver+else-is_handed, else-is_due-receiver, then-carried-gt0, else-carried-gt0}
+use Rattle.ticking.proofs.running_on.Goals.{After-min-passed, After-one_if, Start, Then-is_due-receiver, then-is_due-receiver+then-is_handed, then-is_due-receiver+else-is_handed, else-is_due-receiver, then-carried-gt0, else-carried-gt0}
 use Rattle.ticking.proofs.running_on.Goals as goal
 
 whole : (c : Start) → length c.args.table.processes ≡ 12
@@ -85,10 +85,10 @@ more left at standing goes over =
     (λ none. absurd (never_both (sym (rw none) ∙ goes) (le-ltb at standing over)))
 
 -- the next moment is within them
-reached : (c : After-least_u32-passed) → c.least_u32-passed.result < c.loop-left.left
+reached : (c : After-min-passed) → c.min-passed.result < c.loop-left.left
 reached c =
     let loop = c.loop-left in
-    omega (arith, c.least_u32-passed.ensures, more loop.left loop.at loop.standing c.loop-left-test.true c.if-at-standing.false)
+    omega (arith, c.min-passed.ensures, more loop.left loop.at loop.standing c.loop-left-test.true c.if-at-standing.false)
 
 -- and so many less are to come then
 fewer : (left m standing at : ℕ) → m < left → standing ≤ 64 → 65 * (left - (m + 1)) + (standing - 0) < 65 * left + (standing - at)
@@ -105,14 +105,14 @@ pub loop-left-init : goal.loop-left-init
 unfolding next_due_of
 loop-left-init c =
     let start = c in
-    let all : min start.args.table.orders.count 64 ≤ c.least-standing.result = omega (arith, c.least-standing.ensures) in (
+    let all : min start.args.table.orders.count 64 ≤ c.min-standing.result = omega (arith, c.min-standing.ensures) in (
       whole (goal.at.loop-left-init c).Start,
       long (goal.at.loop-left-init c).Start,
-      c.least-standing.ensures,
+      c.min-standing.ensures,
       omega arith,
-      c.next_due-nearest.ensures ∙ ap (next_due start.args.table.clock) (sym (taken_all start.args.table.orders c.least-standing.result all)),
+      c.next_due-nearest.ensures ∙ ap (next_due start.args.table.clock) (sym (taken_all start.args.table.orders c.min-standing.result all)),
       omega arith,
-      through_begin start.args.table c.least-standing.result start.args.count _ all ∙ ap (λ wakes. end_of wakes 0 (ticks_of start.args.count start.args.table)) c.none-wakes.ensures,
+      through_begin start.args.table c.min-standing.result start.args.count _ all ∙ ap (λ wakes. end_of wakes 0 (ticks_of start.args.count start.args.table)) c.none-wakes.ensures,
     )
 
 pub overflow_cast-process : goal.overflow_cast-process
@@ -136,42 +136,40 @@ bounds-processes-receiver-then-is_due-receiver c = omega (arith, within (goal.at
 pub overflow_add-carried : goal.overflow_add-carried
 overflow_add-carried c = omega (arith, c.one_if.ensures, few c.is_due-is_due.result, c.loop-left.invariant.5, c.if-at-standing.true)
 
-pub loop-left-preserved-then-onward : goal.loop-left-preserved-then-onward
-loop-left-preserved-then-onward c =
+pub loop-left-preserved-in-Some : goal.loop-left-preserved-in-Some
+loop-left-preserved-in-Some c =
     let one = c in
     let loop = c.loop-left in
     let start = c in
     let here = c.if-at-standing.true in
-    let onward = c.onward-onward in
-    let next = onward.result.order in
+    let next = c.in-Some.next in
     let stands : loop.at < min loop.orders.count 64 = omega (arith, loop.invariant.2, here) in
-    let reaches = served (goal.at.loop-left-preserved-then-onward c).After-one_if in (
-      served_whole (goal.at.loop-left-preserved-then-onward c).After-one_if,
+    let reaches = served (goal.at.loop-left-preserved-in-Some c).After-one_if in (
+      served_whole (goal.at.loop-left-preserved-in-Some c).After-one_if,
       length-set loop.orders.places loop.at _ ∙ loop.invariant.1,
       loop.invariant.2,
       omega (arith, here),
-      c.least_u32-nearest.ensures
+      c.min-nearest.ensures
           ∙ ap₂ min loop.invariant.4 c.until.ensures
           ∙ sym (next_behind loop.clock (take loop.at (standing_of loop.orders)) next)
           ∙ ap (next_due loop.clock) (sym (changed_before loop.orders loop.at loop.invariant.1 stands next)),
       omega (arith, one.one_if.ensures, few one.is_due-is_due.result, loop.invariant.5, here),
       rw (reaches.0, reaches.1, one.one_if.ensures, one.is_due-is_due.ensures)
           (turn_stays start.args.table loop.left loop.clock loop.processes loop.wakes loop.orders loop.carried loop.at no_order loop.invariant.1 stands
-          onward.result onward.ensures c.if-onward.true
+          next c.in-Some.ensures
           ∙ loop.invariant.6),
     )
 
-pub loop-left-preserved-else-onward : goal.loop-left-preserved-else-onward
-loop-left-preserved-else-onward c =
+pub loop-left-preserved-in_default : goal.loop-left-preserved-in_default
+loop-left-preserved-in_default c =
     let one = c in
     let loop = c.loop-left in
     let start = c in
     let here = c.if-at-standing.true in
-    let onward = c.onward-onward in
     let left = c.without_place-orders.ensures in
     let stands : loop.at < min loop.orders.count 64 = omega (arith, loop.invariant.2, here) in
-    let reaches = served (goal.at.loop-left-preserved-else-onward c).After-one_if in (
-      served_whole (goal.at.loop-left-preserved-else-onward c).After-one_if,
+    let reaches = served (goal.at.loop-left-preserved-in_default c).After-one_if in (
+      served_whole (goal.at.loop-left-preserved-in_default c).After-one_if,
       ap (λ (o : Orders). length o.places) left ∙ length_without_place loop.at loop.orders,
       ap (λ n. n - 1) loop.invariant.2 ∙ sym (ap (λ (o : Orders). min o.count 64) left ∙ left_fewer loop.orders loop.at loop.invariant.1 stands),
       omega (arith, here),
@@ -181,7 +179,7 @@ loop-left-preserved-else-onward c =
       omega (arith, one.one_if.ensures, few one.is_due-is_due.result, loop.invariant.5, here),
       rw (left, reaches.0, reaches.1, one.one_if.ensures, one.is_due-is_due.ensures)
           (turn_leaves start.args.table loop.left loop.clock loop.processes loop.wakes loop.orders loop.carried loop.at no_order loop.invariant.1 stands
-          onward.result onward.ensures c.if-onward.false
+          c.in_default.ensures
           ∙ loop.invariant.6),
     )
 
@@ -194,20 +192,20 @@ pub overflow_sub-nearest : goal.overflow_sub-nearest
 overflow_sub-nearest c = omega (arith, next_later c.loop-left.clock (take c.loop-left.at (standing_of c.loop-left.orders)))
 
 pub overflow_sub-left-else-at-standing : goal.overflow_sub-left-else-at-standing
-overflow_sub-left-else-at-standing c = omega (arith, reached (goal.at.overflow_sub-left-else-at-standing c).After-least_u32-passed)
+overflow_sub-left-else-at-standing c = omega (arith, reached (goal.at.overflow_sub-left-else-at-standing c).After-min-passed)
 
 pub loop-left-smaller : goal.loop-left-smaller
-loop-left-smaller c = fewer c.loop-left.left c.least_u32-passed.result c.loop-left.standing c.loop-left.at (reached (goal.at.loop-left-smaller c).After-least_u32-passed) (omega (arith, c.loop-left.invariant.2))
+loop-left-smaller c = fewer c.loop-left.left c.min-passed.result c.loop-left.standing c.loop-left.at (reached (goal.at.loop-left-smaller c).After-min-passed) (omega (arith, c.loop-left.invariant.2))
 
 pub loop-left-preserved : goal.loop-left-preserved
 unfolding next_due
 loop-left-preserved c =
     let loop = c.loop-left in
     let start = c in
-    let passed = c.least_u32-passed in
+    let passed = c.min-passed in
     let all : min loop.orders.count 64 ≤ loop.at = omega (arith, loop.invariant.2, c.if-at-standing.false) in
     let near = loop.invariant.4 ∙ ap (next_due loop.clock) (taken_all loop.orders loop.at all) in
-    let within = reached (goal.at.loop-left-preserved c).After-least_u32-passed in
+    let within = reached (goal.at.loop-left-preserved c).After-min-passed in
     let before : passed.result < next_due loop.clock (standing_of loop.orders) = omega (arith, passed.ensures, near, next_later loop.clock (standing_of loop.orders)) in (
       loop.invariant.0,
       loop.invariant.1,

@@ -1,18 +1,15 @@
 use mathlib.Core.Path.{◌∙◌}
-use Rattle.calls.proofs.Obeying.{outcome_alone}
+use Rattle.calls.proofs.Obeying.{outcome_alone, outcome_refuse}
 use Rattle.timers.specs.Timers.{cancelled_of}
 use Rattle.timers.proofs.cancelled.Goals as goal
 
-pub returns : goal.returns
+pub returns-in-Ok : goal.returns-in-Ok
 unfolding cancelled_of
-returns c =
-    let cancel = c in
-    c.answered.ensures
-    ∙ rw (
-      c.none.ensures,
-      outcome_alone,
-      c.cancel_answer-answer.ensures,
-      cancel.cancel-cancel.ensures,
-      cancel.receiver-to.ensures,
-      cancel.sender-from.ensures,
-    )
+returns-in-Ok c =
+    rw (← c.sender-from.ensures, ← c.receiver-to.ensures, ← c.in-Ok.ensures)
+    (c.answered.ensures ∙ rw (c.none.ensures, outcome_alone))
+
+pub returns-in-Err : goal.returns-in-Err
+unfolding cancelled_of
+returns-in-Err c =
+    rw (← c.sender-from.ensures, ← c.receiver-to.ensures, ← c.in-Err.ensures, ← c.cancel_answer.ensures, outcome_refuse) c.refused.ensures

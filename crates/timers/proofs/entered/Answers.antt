@@ -3,12 +3,10 @@ use Rattle.calls.proofs.Obeying.{outcome_alone, outcome_refuse}
 use Rattle.timers.specs.Timers.{ordered}
 use Rattle.timers.proofs.entered.Goals as goal
 
-pub returns-then-accept : goal.returns-then-accept
+pub returns-in-Some : goal.returns-in-Some
 unfolding ordered
-returns-then-accept c =
-    let chosen = c in
-    rw (← chosen.accept-accept.ensures, chosen.if-accept.true) (c.answered.ensures ∙ rw (c.none.ensures, outcome_alone))
+returns-in-Some c = rw (← c.in-Some.ensures) (c.answered.ensures ∙ rw (c.none.ensures, outcome_alone))
 
-pub returns-else-accept : goal.returns-else-accept
+pub returns-in_default : goal.returns-in_default
 unfolding ordered
-returns-else-accept c = rw (← c.accept-accept.ensures, c.if-accept.false, outcome_refuse) c.refused.ensures
+returns-in_default c = rw (← c.in_default.ensures, outcome_refuse) c.refused.ensures

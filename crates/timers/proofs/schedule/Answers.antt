@@ -13,21 +13,21 @@ overflow_cast-new c =
     omega (
       arith,
       receiver_fits given.table.config given.table.processes given.caller given.new moment
-          (rw (← checked.moment_of-moment.ensures, ← checked.schedule_checked-verdict.ensures) c.in-Passed.is),
+          (rw (← checked.moment_of-moment.ensures, ← checked.schedule_checked.ensures) c.in-Ok.is),
     )
 
-pub returns-in-Refused : goal.returns-in-Refused
+pub returns-in-Err : goal.returns-in-Err
 unfolding schedule_of
-returns-in-Refused c =
+returns-in-Err c =
     let checked = c in
     refused_by _ _ _ _ _ c.refused.ensures
-    (rw (← checked.moment_of-moment.ensures, ← checked.schedule_checked-verdict.ensures) c.in-Refused.is)
+    (rw (← checked.moment_of-moment.ensures, ← checked.schedule_checked.ensures) c.in-Err.is)
 
-pub returns-in-Passed : goal.returns-in-Passed
+pub returns-in-Ok : goal.returns-in-Ok
 unfolding schedule_of
-returns-in-Passed c =
+returns-in-Ok c =
     let told = c in
     let checked = told in
     passed_all _ _ _ _
     (c.entered.ensures ∙ rw (c.order-order.ensures, checked.moment_of-moment.ensures))
-    (rw (← checked.moment_of-moment.ensures, ← checked.schedule_checked-verdict.ensures) told.in-Passed.is)
+    (rw (← checked.moment_of-moment.ensures, ← checked.schedule_checked.ensures) told.in-Ok.is)

@@ -16,7 +16,4 @@ pub overflow_cast-result : goal.overflow_cast-result
 overflow_cast-result c = let left = left_of_lem _ _ c.counted-seconds.ensures in omega arith
 
 pub returns : goal.returns
-returns c =
-    let minutes = c in
-    let hours = minutes in
-    unit_by_unit _ _ _ _ _ hours.counted-days.ensures hours.counted-hours.ensures minutes.counted-minutes.ensures c.counted-seconds.ensures
+returns c = unit_by_unit _ _ _ _ _ c.counted-days.ensures c.counted-hours.ensures c.counted-minutes.ensures c.counted-seconds.ensures

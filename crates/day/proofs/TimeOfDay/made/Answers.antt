@@ -1,6 +1,6 @@
 use mathlib.Core.Path.{◌∙◌, ap, sym}
 use native.Mathlib.Omega.{arith}
-use Rattle.day.specs.declared.Made.TheVariants.{Time}
+use Rattle.std.specs.Prelude.{Ok}
 use Rattle.day.proofs.Ranges.{bad_millisecond, bad_second, bad_minute, bad_hour, made_good}
 use Rattle.day.proofs.TimeOfDay.made.Goals as goal
 
@@ -17,4 +17,4 @@ pub returns-then-fields-gt23 : goal.returns-then-fields-gt23
 returns-then-fields-gt23 c = sym (bad_hour _ (omega arith) (omega arith) (omega arith) (omega arith))
 
 pub returns : goal.returns
-returns c = ap Time c.named.ensures ∙ sym (made_good _ (omega arith))
+returns c = ap Ok c.named.ensures ∙ sym (made_good _ (omega arith))

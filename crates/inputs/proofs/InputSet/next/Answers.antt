@@ -1,11 +1,7 @@
-use mathlib.Core.Path.{◌≡◌, refl, sym, ◌∙◌}
-use Prim.Native.Nat.{◌<◌}
-use native.Mathlib.Omega.{arith}
+use Rattle.std.proofs.Common.{◌≡◌, ◌<◌, ◌∙◌, refl, sym, get_or, arith, rules}
 use lib.Count.{count_trailing_zeros}
-use lib.ListN.{get_or}
 use mir.Syntax.{w64}
 use mir.Val.{Fits}
-use borrow.Author.Rules.{rules}
 use Rattle.inputs.specs.InputSet.{rising_of, members_of, next_of}
 use Rattle.inputs.proofs.Members.{next_here, next_later, trailing_within}
 use Rattle.inputs.proofs.InputSet.next.Goals.{Then-word-ne0}
@@ -20,20 +16,17 @@ zeros_within c =
 
 pub loop-at-init : goal.loop-at-init
 unfolding next_of members_of
-loop-at-init c = (search rules, refl)
-
-pub overflow_cast-result : goal.overflow_cast-result
-overflow_cast-result c = omega (arith, zeros_within c)
+loop-at-init c = refl
 
 pub overflow_add-result : goal.overflow_add-result
-overflow_add-result c = omega (arith, zeros_within c)
+overflow_add-result c = omega (arith, zeros_within (goal.at.overflow_add-result c).Then-word-ne0)
 
 pub returns-then-word-ne0 : goal.returns-then-word-ne0
-returns-then-word-ne0 c = sym (next_here _ (search rules) _ (search rules) c.if-word-ne0.true) ∙ c.loop-at.invariant.1
+returns-then-word-ne0 c = sym (next_here _ (search rules) _ (search rules) c.if-word-ne0.true) ∙ c.loop-at.invariant
 
 pub loop-at-preserved : goal.loop-at-preserved
-loop-at-preserved c = (search rules, sym (next_later _ (search rules) _ (search rules) c.if-word-ne0.false) ∙ c.loop-at.invariant.1)
+loop-at-preserved c = sym (next_later _ (search rules) _ (search rules) c.if-word-ne0.false) ∙ c.loop-at.invariant
 
 pub returns : goal.returns
 unfolding rising_of
-returns c = let ended : c.loop-at.at ≡ 4 = omega arith in rw ended at c.loop-at.invariant.1
+returns c = let ended : c.loop-at.at ≡ 4 = omega arith in rw ended at c.loop-at.invariant

@@ -1,10 +1,7 @@
-use native.Mathlib.Omega.{arith}
+use Rattle.std.proofs.Common.{arith}
 use lib.Pow.{pow_pos}
 use Rattle.inputs.proofs.Bits.{one_shifted, below_word}
 use Rattle.inputs.proofs.word.below.Goals as goal
-
-pub returns-then-limit-base : goal.returns-then-limit-base
-returns-then-limit-base c = below_word _ _ 0 (omega arith)
 
 pub overflow_sub-result : goal.overflow_sub-result
 overflow_sub-result c = rw (one_shifted _ c.if-bits-lt64.true) (pow_pos _)

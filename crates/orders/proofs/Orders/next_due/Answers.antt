@@ -1,38 +1,24 @@
-use mathlib.Core.Path.{◌≡◌, ◌∙◌, refl, ap, sym}
-use Prim.Native.Nat.{ℕ, ◌≤◌}
-use native.Mathlib.Omega.{arith}
+use mathlib.Core.Path.{◌≡◌, ◌∙◌, ap, sym}
+use mathlib.Core.List.{map}
+use Prim.Native.Nat.{min}
 use borrow.Author.Rules.{rules}
-use lib.ListN.{length, take}
-use Rattle.common.proofs.Fold.{walk_turn, walk_end}
-use Rattle.common.proofs.Lists.{of_map}
+use Rattle.std.specs.List.{reduce}
+use Rattle.std.specs.Option.{unwrap_or}
+use Rattle.std.proofs.lemmas.Iterator.{YieldsList-from_slice, YieldsList-from_map}
+use Rattle.std.proofs.lemmas.Iterator.Consumers.{min_from_yields_List}
+use Rattle.std.proofs.lemmas.Iterator.Adapters.{option_map_id}
+use Rattle.day.specs.TimeOfDay.{day}
 use Rattle.orders.specs.Orders.{standing_of}
-use Rattle.orders.specs.Advance.{next_due, next_due_of}
-use Rattle.orders.proofs.Walks.{nearing, nearing_due}
-use Rattle.orders.proofs.Orders.next_due.Goals.{Start}
+use Rattle.orders.specs.Advance.{next_due_of}
+use Rattle.orders.proofs.Walks.{off, nearest_due}
 use Rattle.orders.proofs.Orders.next_due.Goals as goal
 
-long : (c : Start) → length c.args.self.places ≡ 64
-long c = search (rules, of_map)
-
-pub loop-at-init : goal.loop-at-init
-loop-at-init c = (omega arith, refl)
-
-pub loop-at-preserved : goal.loop-at-preserved
-loop-at-preserved c =
-    let start = c in
-    let loop = c.loop-at in
-    let places : length start.args.self.places ≡ 64 = long (goal.at.loop-at-preserved c).Start in
-    let within : c.least-count.result ≤ length start.args.self.places = omega (arith, c.least-count.ensures) in (
-      omega arith,
-      rw (c.least_u32-nearest.ensures, c.until.ensures)
-          (sym (walk_turn (nearing start.args.clock) loop.nearest start.args.self.places _ loop.at _ c.loop-at-test.true within) ∙ loop.invariant.1),
-    )
-
 pub returns : goal.returns
-unfolding next_due_of standing_of
+unfolding next_due_of
 returns c =
-    let start = c in
-    let count = c.least-count.result in
-    walk_end (nearing start.args.clock) c.loop-at.nearest _ start.args.self.places count c.loop-at.at c.loop-at-test.false c.loop-at.invariant.1
-    ∙ nearing_due start.args.clock (take count start.args.self.places)
-    ∙ ap (λ (n : ℕ). next_due start.args.clock (take n start.args.self.places)) c.least-count.ensures
+    let stands = standing_of c.args.self.now in
+    let least : c.min.result ≡ reduce min (map (off c.args.clock) stands) =
+    sym (option_map_id c.min.result)
+    ∙ min_from_yields_List _ c.min.result c.min.ensures.ran
+    (YieldsList-from_map _ (off c.args.clock) (YieldsList-from_slice stands cc) c.map.ensures.closure (λ x r q k. search rules)) in
+    c.unwrap_or.ensures ∙ ap (λ o. unwrap_or o day) least ∙ nearest_due c.args.clock stands

@@ -1,44 +1,56 @@
-use mathlib.Core.Path.{◌≡◌, ◌∙◌, ap, sym}
-use mathlib.Core.Bool.{Bool, not}
-use Prim.Native.Nat.{ℕ, ◌≤◌}
+use mathlib.Core.Path.{◌∙◌, ap, sym, subst}
+use mathlib.Core.Bool.{not}
+use Prim.Native.Nat.{◌≤◌, ◌<◌, ◌+◌}
 use native.Mathlib.Omega.{arith}
-use borrow.Author.Rules.{rules}
-use lib.ListN.{length, take}
+use lib.ListN.{length}
+use lib.Seq.{take_all}
 use Rattle.common.specs.Keep.{keep_of}
-use Rattle.common.proofs.Fold.{walk_turn, walk_end}
-use Rattle.common.proofs.Lists.{of_map}
-use Rattle.orders.specs.declared.Order.{Order}
-use Rattle.orders.specs.Orders.{orders_of, standing_of}
-use Rattle.orders.specs.Cancel.{matches_of, without_of}
-use Rattle.orders.proofs.Walks.{pushing_lefts, staying, lefts_keep}
-use Rattle.orders.proofs.Orders.without.Invariants.{keeping}
-use Rattle.orders.proofs.Orders.without.Goals.{Start}
+use Rattle.orders.specs.declared.Orders.{Orders}
+use Rattle.orders.specs.Orders.{none_of, orders_of}
+use Rattle.orders.specs.Cancel.{without_of}
+use Rattle.orders.specs.Timer.{stays_after}
+use Rattle.orders.proofs.Standing.{put_behind}
+use Rattle.orders.proofs.Tables.{room}
+use Rattle.orders.proofs.Walks.{keeps_more, keeps_same}
+use Rattle.orders.proofs.Orders.without.Goals.{then-not-matches, else-not-matches}
 use Rattle.orders.proofs.Orders.without.Goals as goal
 
-long : (c : Start) → length c.args.self.places ≡ 64
-long c = search (rules, of_map)
+pub loop-order-init : goal.loop-order-init
+unfolding none_of orders_of keep_of
+loop-order-init c = (rw c.none-left.ensures (omega arith), c.none-left.ensures)
 
-pub loop-at-init : goal.loop-at-init
-loop-at-init c = (omega arith, rw c.none-left.ensures)
+pub bounds-left-left : goal.bounds-left-left
+bounds-left-left c = room _ _ _ _ c.standing-order-items.ensures c.loop-order.invariant.0 c.loop-order-test.true
 
-pub loop-at-preserved : goal.loop-at-preserved
-loop-at-preserved c =
+pub loop-order-preserved : goal.loop-order-preserved
+loop-order-preserved c =
     let start = c in
-    let loop = c.loop-at in
-    let places : length start.args.self.places ≡ 64 = long (goal.at.loop-at-preserved c).Start in
-    let within : c.least-count.result ≤ length start.args.self.places = omega (arith, c.least-count.ensures) in (
-      omega arith,
-      rw (c.push_if-left.ensures, c.matches-leaves.ensures)
-          (sym (walk_turn (keeping start.args.sender start.args.receiver) loop.left start.args.self.places _ loop.at _ c.loop-at-test.true within) ∙ loop.invariant.1),
-    )
+    let loop = c.loop-order in
+    let items = c.standing-order-items.result.now in
+    let test = stays_after start.args.sender start.args.receiver in
+    let within : loop.order-index < length items = c.loop-order-test.true in
+    let free = room _ _ _ _ c.standing-order-items.ensures loop.invariant.0 within in
+    elim c.if-not-matches.branch [
+      | then-not-matches w ↦ (
+        subst (λ (o : Orders). o.count ≤ loop.order-index + 1) (sym w.left-is) (omega arith),
+        w.left-is
+            ∙ put_behind loop.left _ _ loop.invariant.1 free
+            ∙ ap orders_of (sym (keeps_more test items loop.order-index _ within (ap not (sym c.matches.ensures ∙ w.if-not-matches.true)))),
+      )
+      | else-not-matches w ↦ (
+        subst (λ (o : Orders). o.count ≤ loop.order-index + 1) (sym w.left-is) (omega arith),
+        w.left-is
+            ∙ loop.invariant.1
+            ∙ ap orders_of (sym (keeps_same test items loop.order-index _ within (ap not (sym c.matches.ensures ∙ w.if-not-matches.false)))),
+      )
+    ]
 
 pub returns : goal.returns
-unfolding without_of standing_of
+unfolding without_of
 returns c =
     let start = c in
-    let count = c.least-count.result in
-    let test : Order → Bool = λ x. not (matches_of start.args.sender start.args.receiver x) in
-    walk_end (keeping start.args.sender start.args.receiver) c.loop-at.left _ start.args.self.places count c.loop-at.at c.loop-at-test.false c.loop-at.invariant.1
-    ∙ pushing_lefts (staying test) (take count start.args.self.places)
-    ∙ ap orders_of (lefts_keep test (take count start.args.self.places))
-    ∙ ap (λ (n : ℕ). orders_of (keep_of test (take n start.args.self.places))) c.least-count.ensures
+    let items = c.standing-order-items in
+    let test = stays_after start.args.sender start.args.receiver in
+    c.loop-order.invariant.1
+    ∙ ap (λ l. orders_of (keep_of test l)) (take_all c.loop-order.order-index items.result.now (omega (arith, c.loop-order-test.false)))
+    ∙ ap (λ l. orders_of (keep_of test l)) items.ensures

@@ -1,4 +1,4 @@
-use mathlib.Core.Path.{◌≡◌, refl}
+use mathlib.Core.Path.{◌≡◌}
 use native.Mathlib.Omega.{arith}
 use lib.ListN.{length}
 use lib.Seq.{set_out}
@@ -12,7 +12,7 @@ long c = search rules
 
 pub returns-then-level-lt12 : goal.returns-then-level-lt12
 unfolding stated_of
-returns-then-level-lt12 c = refl
+returns-then-level-lt12 c = rw c.from.ensures
 
 pub returns-else-level-lt12 : goal.returns-else-level-lt12
 unfolding stated_of

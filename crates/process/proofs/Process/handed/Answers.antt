@@ -3,4 +3,4 @@ use Rattle.process.proofs.Process.handed.Goals as goal
 
 pub returns : goal.returns
 unfolding handed_of
-returns c = rw c.tell-telling.ensures
+returns c = rw c.tell-told.ensures

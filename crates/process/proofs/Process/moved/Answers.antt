@@ -1,10 +1,10 @@
 use Rattle.process.specs.Process.{moved_of}
 use Rattle.process.proofs.Process.moved.Goals as goal
 
-pub returns-in-To : goal.returns-in-To
+pub returns-in-Some : goal.returns-in-Some
 unfolding moved_of
-returns-in-To c = rw (← c.next-next.ensures, c.in-To.is)
+returns-in-Some c = rw (← c.next.ensures, c.in-Some.is)
 
-pub returns-in-Nowhere : goal.returns-in-Nowhere
+pub returns-in-None : goal.returns-in-None
 unfolding moved_of
-returns-in-Nowhere c = rw (← c.next-next.ensures, c.in-Nowhere.is)
+returns-in-None c = rw (← c.next.ensures, c.in-None.is)

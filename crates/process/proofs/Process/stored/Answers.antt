@@ -1,10 +1,10 @@
 use Rattle.process.specs.Process.{stored_of}
 use Rattle.process.proofs.Process.stored.Goals as goal
 
-pub returns-then-put : goal.returns-then-put
+pub returns-in-Some : goal.returns-in-Some
 unfolding stored_of
-returns-then-put c = rw (← c.put-put.ensures, c.if-put.true)
+returns-in-Some c = rw (← c.put.ensures, c.in-Some.is)
 
-pub returns-else-put : goal.returns-else-put
+pub returns-in-None : goal.returns-in-None
 unfolding stored_of
-returns-else-put c = rw (← c.put-put.ensures, c.if-put.false)
+returns-in-None c = rw (← c.put.ensures, c.in-None.is)

@@ -3,4 +3,4 @@ use Rattle.process.proofs.Process.taken.Goals as goal
 
 pub returns : goal.returns
 unfolding taken_of
-returns c = rw (c.tell-telling.ensures, c.oldest-message.ensures, c.rest-rest.ensures)
+returns c = rw (c.tell-told.ensures, c.oldest.ensures, c.rest.ensures)

@@ -1,14 +1,7 @@
-use mathlib.Core.Path.{◌∙◌, sym}
-use Rattle.rtms.specs.Calls.{SEND}
-use Rattle.rtms.proofs.Guarding.{guarded_sound, guarded_broken}
+use Rattle.std.proofs.Common.{rules}
+use Rattle.rtms.specs.Calls.{SEND, effect_of, answer_of}
 use Rattle.rtms.proofs.message_calls.send.Goals as goal
 
-pub returns-then-sound : goal.returns-then-sound
-returns-then-sound c =
-    let args = c.args in
-    guarded_sound (SEND args.caller args.receiver args.condition args.message) _ _ (sym c.sound.ensures ∙ c.if-sound.true) c.send.ensures
-
-pub returns-else-sound : goal.returns-else-sound
-returns-else-sound c =
-    let args = c.args in
-    guarded_broken (SEND args.caller args.receiver args.condition args.message) _ _ (sym c.sound.ensures ∙ c.if-sound.false) c.refused.ensures
+pub returns : goal.returns
+unfolding answer_of
+returns c = c.guarded.ensures (effect_of (SEND c.args.caller c.args.receiver c.args.condition c.args.message) c.args.table) (λ r ran. search rules)

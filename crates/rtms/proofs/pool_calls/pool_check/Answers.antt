@@ -1,14 +1,7 @@
-use mathlib.Core.Path.{◌∙◌, sym}
-use Rattle.rtms.specs.Calls.{POOLCHECK}
-use Rattle.rtms.proofs.Guarding.{guarded_sound, guarded_broken}
+use Rattle.std.proofs.Common.{rules}
+use Rattle.rtms.specs.Calls.{POOLCHECK, effect_of, answer_of}
 use Rattle.rtms.proofs.pool_calls.pool_check.Goals as goal
 
-pub returns-then-sound : goal.returns-then-sound
-returns-then-sound c =
-    let args = c.args in
-    guarded_sound (POOLCHECK args.caller args.stated) _ _ (sym c.sound.ensures ∙ c.if-sound.true) c.pool_check.ensures
-
-pub returns-else-sound : goal.returns-else-sound
-returns-else-sound c =
-    let args = c.args in
-    guarded_broken (POOLCHECK args.caller args.stated) _ _ (sym c.sound.ensures ∙ c.if-sound.false) c.refused.ensures
+pub returns : goal.returns
+unfolding answer_of
+returns c = c.guarded.ensures (effect_of (POOLCHECK c.args.caller c.args.stated) c.args.table) (λ r ran. search rules)

@@ -1,14 +1,7 @@
-use mathlib.Core.Path.{◌∙◌, sym}
-use Rattle.rtms.specs.Calls.{RELSEMA}
-use Rattle.rtms.proofs.Guarding.{guarded_sound, guarded_broken}
+use Rattle.std.proofs.Common.{rules}
+use Rattle.rtms.specs.Calls.{RELSEMA, effect_of, answer_of}
 use Rattle.rtms.proofs.semaphore_calls.release.Goals as goal
 
-pub returns-then-sound : goal.returns-then-sound
-returns-then-sound c =
-    let args = c.args in
-    guarded_sound (RELSEMA args.caller args.number) _ _ (sym c.sound.ensures ∙ c.if-sound.true) c.release.ensures
-
-pub returns-else-sound : goal.returns-else-sound
-returns-else-sound c =
-    let args = c.args in
-    guarded_broken (RELSEMA args.caller args.number) _ _ (sym c.sound.ensures ∙ c.if-sound.false) c.refused.ensures
+pub returns : goal.returns
+unfolding answer_of
+returns c = c.guarded.ensures (effect_of (RELSEMA c.args.caller c.args.number) c.args.table) (λ r ran. search rules)

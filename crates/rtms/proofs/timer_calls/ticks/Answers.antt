@@ -1,14 +1,7 @@
-use mathlib.Core.Path.{◌∙◌, sym}
-use Rattle.rtms.specs.Calls.{TICKS}
-use Rattle.rtms.proofs.Guarding.{guarded_sound, guarded_broken}
+use Rattle.std.proofs.Common.{rules}
+use Rattle.rtms.specs.Calls.{TICKS, effect_of, answer_of}
 use Rattle.rtms.proofs.timer_calls.ticks.Goals as goal
 
-pub returns-then-sound : goal.returns-then-sound
-returns-then-sound c =
-    let args = c.args in
-    guarded_sound (TICKS args.count) _ _ (sym c.sound.ensures ∙ c.if-sound.true) c.ticks.ensures
-
-pub returns-else-sound : goal.returns-else-sound
-returns-else-sound c =
-    let args = c.args in
-    guarded_broken (TICKS args.count) _ _ (sym c.sound.ensures ∙ c.if-sound.false) c.refused.ensures
+pub returns : goal.returns
+unfolding answer_of
+returns c = c.guarded.ensures (effect_of (TICKS c.args.count) c.args.table) (λ r ran. search rules)

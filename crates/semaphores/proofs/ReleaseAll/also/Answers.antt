@@ -1,18 +1,15 @@
 use Rattle.semaphores.specs.Semaphores.{also_of}
+use Rattle.semaphores.proofs.ReleaseAll.also.Goals.{in-Some, in-None}
 use Rattle.semaphores.proofs.ReleaseAll.also.Goals as goal
 
-pub returns-in-HandedTo : goal.returns-in-HandedTo
+pub returns-in_default : goal.returns-in_default
 unfolding also_of
-returns-in-HandedTo c = rw (c.with-woken.ensures, ← c.release-release.ensures, c.in-HandedTo.is)
+returns-in_default c = rw (← c.in_default.ensures)
 
-pub returns-in-Freed : goal.returns-in-Freed
+pub returns : goal.returns
 unfolding also_of
-returns-in-Freed c = rw (← c.release-release.ensures, c.in-Freed.is)
-
-pub returns-in-Unusable : goal.returns-in-Unusable
-unfolding also_of
-returns-in-Unusable c = rw (← c.release-release.ensures, c.in-Unusable.is)
-
-pub returns-in-NotHolder : goal.returns-in-NotHolder
-unfolding also_of
-returns-in-NotHolder c = rw (← c.release-release.ensures, c.in-NotHolder.is)
+returns c =
+    elim c.match-release-2.branch [
+      | in-Some w ↦ rw (w.woken-is, w.with-woken.ensures, ← c.in-Ok.ensures, w.in-Some.is)
+      | in-None w ↦ rw (w.woken-is, ← c.in-Ok.ensures, w.in-None.is)
+    ]

@@ -1,34 +1,47 @@
-use mathlib.Core.Path.{sym, ◌∙◌}
-use Prim.Native.Nat.{◌<◌}
-use native.Mathlib.Omega.{arith}
-use Rattle.semaphores.specs.Semaphores.{release_of}
-use Rattle.semaphores.proofs.Numbers.{usable_below, holds_usable}
-use Rattle.semaphores.proofs.Semaphores.release.Goals.{After-queue-1}
+use Rattle.std.proofs.Common.{◌≡◌, ◌<◌, ◌∙◌, arith}
+use Rattle.std.proofs.lemmas.Result.{err_from_is_err_and}
+use borrow.Author.Tests.{eq-eqb, ne_eqb}
+use Rattle.semaphores.specs.Semaphores.{holder_of, holds_of, not_held_of, release_of}
+use Rattle.semaphores.proofs.Numbers.{usable_below, checked_usable, checked_unusable}
+use Rattle.semaphores.proofs.Semaphores.release.Goals.{After-from-at}
 use Rattle.semaphores.proofs.Semaphores.release.Goals as goal
 
--- what the level holds has a place among the holders
-below : (c : After-queue-1) → c.args.number < 96
-below c = usable_below _ (holds_usable _ _ _ (sym c.holds.ensures ∙ c.if-holds.true))
+pub returns-in_err-number : goal.returns-in_err-number
+unfolding release_of holds_of not_held_of
+returns-in_err-number c =
+    let refused = err_from_is_err_and c.from_residual.result c.from_residual.ensures.1 in
+    rw (refused.1, refused.2, checked_unusable _ _ c.in_err-number.ensures)
 
-pub overflow_cast-number : goal.overflow_cast-number
-overflow_cast-number c = omega (arith, below c)
+-- a usable number has a place among the holders
+place : (c : After-from-at) → c.from-at.result < 96
+place c = let passed = checked_usable _ _ c.in_ok-number.ensures in omega (arith, usable_below _ passed.0, passed.1, c.from-at.ensures)
 
-pub bounds-holders-at : goal.bounds-holders-at
-bounds-holders-at c = below (goal.at.bounds-holders-at c).After-queue-1
+pub bounds-self-at : goal.bounds-self-at
+bounds-self-at c = place (goal.at.bounds-self-at c).After-from-at
 
-pub returns-then-leaving : goal.returns-then-leaving
-unfolding release_of
-returns-then-leaving c =
-    rw (← c.holds.ensures, c.if-holds.true, ← c.leaving-leaving.ensures, c.if-leaving.true)
+pub bounds-semaphores-at : goal.bounds-semaphores-at
+bounds-semaphores-at c = place (goal.at.bounds-semaphores-at c).After-from-at
 
-pub bounds-holders-at-then-holds : goal.bounds-holders-at-then-holds
-bounds-holders-at-then-holds c = below (goal.at.bounds-holders-at-then-holds c).After-queue-1
+pub bounds-semaphores-at-2 : goal.bounds-semaphores-at-2
+bounds-semaphores-at-2 c = place (goal.at.bounds-semaphores-at-2 c).After-from-at
 
-pub returns-then-holds : goal.returns-then-holds
-unfolding release_of
-returns-then-holds c =
-    rw (← c.holds.ensures, c.if-holds.true, ← c.leaving-leaving.ensures, c.if-leaving.false)
+pub returns-then-holder-level : goal.returns-then-holder-level
+unfolding release_of holds_of not_held_of holder_of
+returns-then-holder-level c =
+    let passed = checked_usable _ _ c.in_ok-number.ensures in
+    let at : c.from-at.result ≡ c.args.number = c.from-at.ensures ∙ passed.1 in
+    rw (at, passed.0, ne_eqb _ _ (rw at at c.if-holder-level.true))
+
+pub returns-in_default : goal.returns-in_default
+unfolding release_of holds_of holder_of
+returns-in_default c =
+    let passed = checked_usable _ _ c.in_ok-number.ensures in
+    let at : c.from-at.result ≡ c.args.number = c.from-at.ensures ∙ passed.1 in
+    rw (at, passed.0, eq-eqb _ _ (rw at at c.if-holder-level.false), ← passed.1, ← c.in_default.ensures)
 
 pub returns : goal.returns
-unfolding release_of
-returns c = rw (← c.holds.ensures, c.if-holds.false, c.not_held-released.ensures)
+unfolding release_of holds_of holder_of
+returns c =
+    let passed = checked_usable _ _ c.in_ok-number.ensures in
+    let at : c.from-at.result ≡ c.args.number = c.from-at.ensures ∙ passed.1 in
+    rw (at, passed.0, eq-eqb _ _ (rw at at c.if-holder-level.false), ← passed.1, ← c.in-Some.ensures)

@@ -1,43 +1,39 @@
-use mathlib.Core.Path.{◌≡◌, sym, ◌∙◌}
-use mathlib.Core.Bool.{true}
-use native.Mathlib.Omega.{arith}
+use Rattle.std.proofs.Common.{◌≡◌, ◌∙◌, arith}
+use Rattle.std.proofs.lemmas.Result.{err_from_is_err_and}
 use borrow.Author.Tests.{eq-eqb, ne_eqb}
-use Rattle.semaphores.specs.Semaphores.{usable_of, free, holder_of, request_of}
-use Rattle.semaphores.proofs.Numbers.{usable_below}
-use Rattle.semaphores.proofs.Semaphores.request.Goals.{After-holders-1}
+use Rattle.semaphores.specs.Semaphores.{free, holder_of, request_of}
+use Rattle.semaphores.proofs.Numbers.{usable_below, checked_usable, checked_unusable}
 use Rattle.semaphores.proofs.Semaphores.request.Goals as goal
 
--- the number is usable where its holder is looked at
-known : (c : After-holders-1) → usable_of c.args.number ≡ true
-known c = sym c.usable.ensures ∙ c.if-usable.true
+pub returns-in_err-number : goal.returns-in_err-number
+unfolding request_of
+returns-in_err-number c =
+    let refused = err_from_is_err_and c.from_residual.result c.from_residual.ensures.1 in rw (refused.1, checked_unusable _ _ c.in_err-number.ensures)
 
-pub bounds-holders-at : goal.bounds-holders-at
-bounds-holders-at c = usable_below _ (sym c.usable.ensures ∙ c.if-usable.true)
+pub bounds-self-at : goal.bounds-self-at
+bounds-self-at c = let passed = checked_usable _ _ c.in_ok-number.ensures in omega (arith, usable_below _ passed.0, passed.1, c.from-at.ensures)
 
-pub bounds-holders-at-then-holder : goal.bounds-holders-at-then-holder
-bounds-holders-at-then-holder c = usable_below _ (known (goal.at.bounds-holders-at-then-holder c).After-holders-1)
+pub bounds-semaphores-at : goal.bounds-semaphores-at
+bounds-semaphores-at c = let passed = checked_usable _ _ c.in_ok-number.ensures in omega (arith, usable_below _ passed.0, passed.1, c.from-at.ensures)
 
 pub returns-then-holder : goal.returns-then-holder
 unfolding request_of holder_of
 returns-then-holder c =
-    let start = c in
-    let is_free : holder_of start.args.self start.args.number ≡ free = c.if-holder.true in
-    rw (known (goal.at.returns-then-holder c).After-holders-1, eq-eqb _ _ is_free)
+    let passed = checked_usable _ _ c.in_ok-number.ensures in
+    let at : c.from-at.result ≡ c.args.number = c.from-at.ensures ∙ passed.1 in
+    let is_free : holder_of c.args.self c.args.number ≡ free = rw at at c.if-holder.true in
+    rw (at, passed.0, eq-eqb _ _ is_free)
 
 pub returns-then-holder-level : goal.returns-then-holder-level
 unfolding request_of holder_of
 returns-then-holder-level c =
-    let start = c in
-    let own : holder_of start.args.self start.args.number ≡ start.args.level = c.if-holder-level.true in
-    rw (known (goal.at.returns-then-holder-level c).After-holders-1, ne_eqb _ _ c.if-holder.false, eq-eqb _ _ own)
+    let passed = checked_usable _ _ c.in_ok-number.ensures in
+    let at : c.from-at.result ≡ c.args.number = c.from-at.ensures ∙ passed.1 in
+    rw (passed.0, ne_eqb _ _ (rw at at c.if-holder.false), eq-eqb _ _ (rw at at c.if-holder-level.true))
 
-pub overflow_cast-number : goal.overflow_cast-number
-overflow_cast-number c = omega (arith, usable_below _ (known (goal.at.overflow_cast-number c).After-holders-1))
-
-pub returns-then-usable : goal.returns-then-usable
+pub returns-else-holder-level : goal.returns-else-holder-level
 unfolding request_of holder_of
-returns-then-usable c = rw (c.push-queue.ensures, known (goal.at.returns-then-usable c).After-holders-1, ne_eqb _ _ c.if-holder.false, ne_eqb _ _ c.if-holder-level.false)
-
-pub returns : goal.returns
-unfolding request_of
-returns c = rw (← c.usable.ensures, c.if-usable.false)
+returns-else-holder-level c =
+    let passed = checked_usable _ _ c.in_ok-number.ensures in
+    let at : c.from-at.result ≡ c.args.number = c.from-at.ensures ∙ passed.1 in
+    rw (c.push-semaphores.ensures, passed.1, passed.0, ne_eqb _ _ (rw at at c.if-holder.false), ne_eqb _ _ (rw at at c.if-holder-level.false))

@@ -4,5 +4,4 @@ use Rattle.table.proofs.Table.fresh.Goals as goal
 pub returns : goal.returns
 unfolding fresh_of
 returns c =
-    let made = c in
-    rw (made.fresh.ensures, made.none.ensures, made.fresh-2.ensures, made.empty.ensures, made.empty-2.ensures, c.fresh-3.ensures)
+    rw (c.fresh.ensures, c.none.ensures, c.fresh-2.ensures, c.empty.ensures, c.empty-2.ensures, c.fresh-3.ensures)

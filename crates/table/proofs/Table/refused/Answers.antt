@@ -3,4 +3,4 @@ use Rattle.table.proofs.Table.refused.Goals as goal
 
 pub returns : goal.returns
 unfolding refused_of
-returns c = rw (c.empty.ensures, c.none.ensures)
+returns c = rw c.none.ensures

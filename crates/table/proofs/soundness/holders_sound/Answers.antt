@@ -1,17 +1,15 @@
-use mathlib.Core.Path.{◌≡◌, refl, sym}
-use native.Mathlib.Omega.{arith}
-use Rattle.common.specs.Every.{every_below}
-use Rattle.common.proofs.Every.{every_turn}
-use Rattle.table.specs.Sound.{holders_sound}
+use Rattle.std.proofs.Common.{◌≡◌, ◌∙◌, length, rules, tests}
+use Rattle.std.proofs.lemmas.Iterator.{YieldsList-from_slice}
+use Rattle.std.proofs.lemmas.Iterator.Search.{all_from_yields_List}
+use Rattle.table.specs.Sound.{holder_sound, holders_sound}
+use Rattle.table.proofs.Chains.{all_of}
 use Rattle.table.proofs.soundness.holders_sound.Goals as goal
-
-pub loop-number-init : goal.loop-number-init
-unfolding every_below
-loop-number-init c = (omega arith, refl)
-
-pub loop-number-preserved : goal.loop-number-preserved
-loop-number-preserved c = (omega arith, rw (c.holder_sound-all.ensures, c.loop-number.invariant.1) (sym (every_turn _ _)))
 
 pub returns : goal.returns
 unfolding holders_sound
-returns c = let last : c.loop-number.number ≡ 96 = omega arith in rw (c.loop-number.invariant.1, last)
+returns c =
+    let holders = c.args.holders.now in
+    let long : length holders ≡ 96 = search rules in
+    all_from_yields_List (holder_sound c.args.config) _ _ c.all.result c.all.ensures.ran (YieldsList-from_slice holders c.iter.ensures.rest) (λ x b q k. search (rules, tests))
+    ∙ all_of (holder_sound c.args.config) 0 holders
+    ∙ rw long

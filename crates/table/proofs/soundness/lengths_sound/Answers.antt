@@ -1,17 +1,17 @@
-use mathlib.Core.Path.{◌≡◌, refl, sym}
-use native.Mathlib.Omega.{arith}
-use Rattle.common.specs.Every.{every_below}
-use Rattle.common.proofs.Every.{every_turn}
-use Rattle.table.specs.Sound.{lengths_sound}
+use Rattle.std.proofs.Common.{◌∙◌, refl, rules, tests}
+use Rattle.std.proofs.lemmas.Iterator.{YieldsList-from_slice, YieldsList-from_range, YieldsList-from_zip}
+use Rattle.std.proofs.lemmas.Iterator.Consumers.{YieldsList-at}
+use Rattle.std.proofs.lemmas.Iterator.Search.{all_from_yields_List}
+use Rattle.table.specs.Sound.{length_sound, lengths_sound}
+use Rattle.table.proofs.Chains.{all_numbered_from_none}
 use Rattle.table.proofs.soundness.lengths_sound.Goals as goal
-
-pub loop-level-init : goal.loop-level-init
-unfolding every_below
-loop-level-init c = (omega arith, refl)
-
-pub loop-level-preserved : goal.loop-level-preserved
-loop-level-preserved c = (omega arith, rw (c.length_sound-all.ensures, c.loop-level.invariant.1) (sym (every_turn _ _)))
 
 pub returns : goal.returns
 unfolding lengths_sound
-returns c = let last : c.loop-level.level ≡ 12 = omega arith in rw (c.loop-level.invariant.1, last)
+returns c =
+    let stated = c.args.stated.now in
+    let sound = length_sound c.args.config in
+    all_from_yields_List (λ p. sound p.0 p.1) c.all.new.self _ c.all.result c.all.ensures.ran
+    (YieldsList-from_zip (YieldsList-at c.zip.ensures.first (YieldsList-from_range 0 12 12 refl refl)) (YieldsList-from_slice stated c.zip.ensures.second.0))
+    (λ x b q k. search (rules, tests))
+    ∙ all_numbered_from_none sound 0 stated 12 c.told-stated

@@ -1,19 +1,20 @@
-use mathlib.Core.Path.{◌≡◌, refl, sym}
-use Prim.Native.Nat.{min}
-use native.Mathlib.Omega.{arith}
-use Rattle.common.specs.Every.{every_below}
-use Rattle.common.proofs.Every.{every_turn}
-use Rattle.table.specs.Sound.{orders_sound}
+use Rattle.std.proofs.Common.{◌≡◌, ◌∙◌, length, rules, tests}
+use Rattle.std.proofs.lemmas.Iterator.{YieldsList-from_slice, YieldsList-from_take}
+use Rattle.std.proofs.lemmas.Iterator.Consumers.{YieldsList-at}
+use Rattle.std.proofs.lemmas.Iterator.Search.{all_from_yields_List}
+use Rattle.common.proofs.Lists.{of_map}
+use Rattle.table.specs.Sound.{no_order, order_sound, orders_sound}
+use Rattle.table.proofs.Chains.{all_first}
 use Rattle.table.proofs.soundness.orders_sound.Goals as goal
-
-pub loop-at-init : goal.loop-at-init
-unfolding every_below
-loop-at-init c = (omega arith, refl)
-
-pub loop-at-preserved : goal.loop-at-preserved
-loop-at-preserved c = (omega arith, rw (c.order_sound-all.ensures, c.loop-at.invariant.1) (sym (every_turn _ _)))
 
 pub returns : goal.returns
 unfolding orders_sound
-returns c = let last : c.loop-at.at ≡ min c.args.orders.count 64 = omega (arith, c.least-count.ensures) in
-    rw (c.loop-at.invariant.1, last)
+returns c =
+    let orders = c.args.orders.now in
+    let long : length orders.places ≡ 64 = search (rules, of_map) in
+    let every_order : c.all-all.result ≡ _ =
+    all_from_yields_List (order_sound c.args.config) _ _ c.all-all.result c.all-all.ensures.ran
+    (YieldsList-from_take orders.count (YieldsList-at c.take.ensures.source (YieldsList-from_slice orders.places c.iter.ensures.rest)) c.take.ensures.count)
+    (λ x b q k. search (rules, tests))
+    ∙ all_first (order_sound c.args.config) no_order orders.places orders.count in
+    rw (every_order, long, c.from.ensures)

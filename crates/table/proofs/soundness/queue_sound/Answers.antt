@@ -1,19 +1,21 @@
-use mathlib.Core.Path.{◌≡◌, refl, sym}
-use Prim.Native.Nat.{min}
-use native.Mathlib.Omega.{arith}
-use Rattle.common.specs.Every.{every_below}
-use Rattle.common.proofs.Every.{every_turn}
-use Rattle.table.specs.Sound.{queue_sound}
+use Rattle.std.proofs.Common.{◌≡◌, ◌∙◌, length, rules, tests}
+use Rattle.std.proofs.lemmas.Iterator.{YieldsList-from_slice, YieldsList-from_take}
+use Rattle.std.proofs.lemmas.Iterator.Consumers.{YieldsList-at}
+use Rattle.std.proofs.lemmas.Iterator.Search.{all_from_yields_List}
+use Rattle.common.proofs.Lists.{of_map}
+use Rattle.table.specs.Sound.{no_waiter, waiter_sound, queue_sound}
+use Rattle.table.proofs.Chains.{all_first}
 use Rattle.table.proofs.soundness.queue_sound.Goals as goal
-
-pub loop-at-init : goal.loop-at-init
-unfolding every_below
-loop-at-init c = (omega arith, refl)
-
-pub loop-at-preserved : goal.loop-at-preserved
-loop-at-preserved c = (omega arith, rw (c.waiter_sound-all.ensures, c.loop-at.invariant.1) (sym (every_turn _ _)))
 
 pub returns : goal.returns
 unfolding queue_sound
-returns c = let last : c.loop-at.at ≡ min c.args.queue.count 12 = omega (arith, c.least-count.ensures) in
-    rw (c.loop-at.invariant.1, last)
+returns c =
+    let queue = c.args.queue.now in
+    let sound = waiter_sound c.args.config c.args.holders.now in
+    let long : length queue.waiters ≡ 12 = search (rules, of_map) in
+    let every_waiter : c.all-all.result ≡ _ =
+    all_from_yields_List sound _ _ c.all-all.result c.all-all.ensures.ran
+    (YieldsList-from_take queue.count (YieldsList-at c.take.ensures.source (YieldsList-from_slice queue.waiters c.iter.ensures.rest)) c.take.ensures.count)
+    (λ x b q k. search (rules, tests))
+    ∙ all_first sound no_waiter queue.waiters queue.count in
+    rw (every_waiter, long)

@@ -4,5 +4,4 @@ use Rattle.table.proofs.soundness.sound.Goals as goal
 pub returns : goal.returns
 unfolding sound_of
 returns c =
-    let all = c in
-    rw (all.good.ensures, all.levels_sound.ensures, all.orders_sound.ensures, all.holders_sound.ensures, all.queue_sound.ensures, all.on_card.ensures, all.on_card-2.ensures, c.pool_sound.ensures)
+    rw (c.good.ensures, c.levels_sound.ensures, c.orders_sound.ensures, c.holders_sound.ensures, c.queue_sound.ensures, c.on_card.ensures, c.on_card-2.ensures, c.pool_sound.ensures)

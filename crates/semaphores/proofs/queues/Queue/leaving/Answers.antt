@@ -1,32 +1,52 @@
-use mathlib.Core.Path.{◌≡◌, ◌∙◌, refl, sym}
-use native.Mathlib.Omega.{arith}
-use borrow.Author.Rules.{rules}
-use lib.ListN.{length}
-use Rattle.common.proofs.Fold.{walk_turn, walk_end}
-use Rattle.common.proofs.Lists.{of_map}
-use Rattle.semaphores.specs.Queues.{nobody, passed_of, list_of}
-use Rattle.semaphores.proofs.Waiting.{leaving_fold}
-use Rattle.semaphores.proofs.queues.Queue.leaving.Goals.{Start}
+use Rattle.std.proofs.Common.{◌≡◌, ◌+◌, List, [], ◌∷◌, ◌++◌, get_or, take, refl, ap, sym, ◌∙◌}
+use Rattle.std.proofs.lemmas.List.{take_more, take_all}
+use Rattle.common.specs.Keep.{keep_of}
+use Rattle.semaphores.specs.declared.queues.Waiter.{Waiter}
+use Rattle.semaphores.specs.Queues.{nobody, list_of, queued, empty_of, leaving_of, levels_for, without_first}
+use Rattle.semaphores.proofs.Waiting.{first_stays, without_stays, first_found, without_found, leaving_some, leaving_none}
+use Rattle.semaphores.proofs.queues.Queue.leaving.Goals.{then-is_some-waiter, else-is_some-waiter}
 use Rattle.semaphores.proofs.queues.Queue.leaving.Goals as goal
 
-long : (c : Start) → length c.args.self.waiters ≡ 12
-long c = search (rules, of_map)
+pub loop-waiter-init : goal.loop-waiter-init
+unfolding levels_for without_first empty_of keep_of
+loop-waiter-init c = record { first = refl; queue = c.empty-queue.ensures }
 
-pub loop-at-init : goal.loop-at-init
-loop-at-init c = (omega arith, refl)
+pub loop-waiter-preserved : goal.loop-waiter-preserved
+loop-waiter-preserved c =
+    let loop = c.loop-waiter in
+    let number = c.args.number in
+    let all = c.standing-waiter-items.result.now in
+    let before : List Waiter = take loop.waiter-index all in
+    let w : Waiter = get_or all loop.waiter-index nobody in
+    let more : take (loop.waiter-index + 1) all ≡ before ++ (w ∷ []) = take_more all loop.waiter-index nobody c.loop-waiter-test.true in
+    elim c.if-is_some-waiter.branch [
+      | then-is_some-waiter way ↦
+          let stays = rw (c.is_some.ensures, loop.invariant.first) at way.if-is_some-waiter.true in
+          rw more (record {
+            first = way.first-is ∙ loop.invariant.first ∙ sym (first_stays number w before stays);
+            queue = way.queue-is ∙ way.push-queue.ensures ∙ rw loop.invariant.queue (without_stays number w before stays);
+          })
+      | else-is_some-waiter way ↦
+          let found = rw (c.is_some.ensures, loop.invariant.first) at way.if-is_some-waiter.false in
+          rw more (record {
+            first = way.first-is ∙ sym (first_found number w before found);
+            queue = way.queue-is ∙ loop.invariant.queue ∙ ap queued (sym (without_found number w before found));
+          })
+    ]
 
-pub loop-at-preserved : goal.loop-at-preserved
-loop-at-preserved c =
-    let start = c in
-    let l : length start.args.self.waiters ≡ 12 = long (goal.at.loop-at-preserved c).Start in (
-      omega arith,
-      rw c.passed-passing.ensures
-          (sym (walk_turn (passed_of _) _ start.args.self.waiters _ _ nobody c.loop-at-test.true (omega arith)) ∙ c.loop-at.invariant.1),
-    )
+pub returns-in_err-level : goal.returns-in_err-level
+unfolding leaving_of
+returns-in_err-level c =
+    let loop = c.loop-waiter in
+    let all : take loop.waiter-index c.standing-waiter-items.result.now ≡ list_of c.args.self = take_all _ _ c.loop-waiter-test.false ∙ c.standing-waiter-items.ensures in
+    let h = c.from_residual.ensures in h ∙ sym (leaving_none (levels_for c.args.number (list_of c.args.self)) _ (rw (← all) (sym loop.invariant.first ∙ c.in_err-level.was)))
 
 pub returns : goal.returns
-unfolding list_of
+unfolding leaving_of
 returns c =
-    let start = c in
-    walk_end (passed_of start.args.number) _ _ start.args.self.waiters _ _ c.loop-at-test.false c.loop-at.invariant.1
-    ∙ rw (c.empty.ensures, c.least-count.ensures) (leaving_fold start.args.self start.args.number)
+    let loop = c.loop-waiter in
+    let number = c.args.number in
+    let level = c.in_ok-level.level in
+    let all : take loop.waiter-index c.standing-waiter-items.result.now ≡ list_of c.args.self = take_all _ _ c.loop-waiter-test.false ∙ c.standing-waiter-items.ensures in
+    let queue : loop.queue ≡ queued (without_first number (list_of c.args.self)) = loop.invariant.queue ∙ ap (λ (l : List Waiter). queued (without_first number l)) all in
+    rw queue (sym (leaving_some (levels_for number (list_of c.args.self)) _ level (rw (← all) (sym loop.invariant.first ∙ c.in_ok-level.was))))

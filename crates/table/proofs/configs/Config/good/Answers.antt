@@ -4,5 +4,4 @@ use Rattle.table.proofs.configs.Config.good.Goals as goal
 pub returns : goal.returns
 unfolding good_of
 returns c =
-    let all = c in
-    rw (all.levels_good.ensures, all.scheduler_good.ensures, all.places_good.ensures, all.privileged_good.ensures)
+    rw (c.levels_good.ensures, c.scheduler_good.ensures, c.places_good.ensures, c.privileged_good.ensures)
