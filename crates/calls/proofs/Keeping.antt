@@ -21,7 +21,7 @@ use Rattle.process.specs.declared.Process.{Process}
 use Rattle.process.specs.declared.states.State.TheVariants.{Ready, WaitingForSemaphore}
 use Rattle.process.specs.Process.{fresh_of}
 use Rattle.process.specs.States.{is_of}
-use Rattle.semaphores.specs.declared.queues.Queue.{Queue}
+use Rattle.semaphores.specs.Queues.{Queue}
 use Rattle.semaphores.specs.Turns.{Orderly}
 use Rattle.table.specs.declared.answers.Answer.{Answer}
 use Rattle.table.specs.declared.answers.Answer.TheVariants.{NoUser, NotReady}

@@ -1,12 +1,12 @@
 // What all calls share: their checks in order, the process at a level, and how an answer is given.
 #![tactic(auto)]
 
-ghost use Rattle.std.specs.Prelude.{◌≡◌, min, set};
+ghost use Rattle.std.specs.Prelude.{◌≡◌, Ok, min, set};
 ghost use Rattle.calls.specs.Decisions.{decided, told_of, looked_at, decided_at};
 ghost use Rattle.calls.specs.declared.Decided.{Decided};
-ghost use Rattle.calls.specs.Effects.{nothing};
-ghost use Rattle.calls.specs.Levels.{process_at};
-ghost use Rattle.calls.specs.Verdicts.{check_of, by_caller};
+ghost use Rattle.calls.specs.Effects.{Effect, nothing, outcome_of};
+ghost use Rattle.calls.specs.Levels.{process_at, process_of};
+ghost use Rattle.calls.specs.Verdicts.{check_of, by_caller, obeyed};
 ghost use Rattle.calls.specs.Outcomes.{answered_of, carries_number, replied_of, told_as};
 
 use process::Process;
@@ -53,6 +53,30 @@ pub fn caller_checked(config: Config, process: Process, caller: u8) -> Result<()
 {
     check(config.has_level(caller as u16), Answer::NoUser)?;
     check(process.state == State::Ready, Answer::NotReady)
+}
+
+// The same two checks of a caller whose record no other check looks at.
+pub fn may_call(table: &Table, caller: u8) -> Result<(), Answer>
+    ensures { result ≡ by_caller table.now.config (process_of table.now caller) caller }
+{
+    let process = process_at(table.processes, caller as u16);
+    caller_checked(table.config, process, caller)
+}
+
+// A call on a table, by what became of its checks: it runs where all of them passed, and else the first that failed refuses it. Whatever effect
+// the call has on the table, obeyed it has that.
+pub fn obeyed<F: FnOnce(Table) -> Outcome>(
+    table: Table,
+    checked: Result<(), Answer>,
+    call: F,
+) -> Outcome
+    requires { checked ≡ Ok tt → F.pre call table }
+    ensures { (effect : Effect) → (checked ≡ Ok tt → (r : Outcome) → F.post call table r → r ≡ outcome_of effect) → result ≡ outcome_of (obeyed checked table effect) }
+{
+    match checked {
+        Ok(()) => call(table),
+        Err(answer) => table.refused(answer),
+    }
 }
 
 // What a call decides that changes the record of one process and nothing else: the answer, what it carries, and that record. Decided on small

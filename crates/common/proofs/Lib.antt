@@ -8,3 +8,4 @@ pub mod Packing
 pub mod Parts
 pub mod Once
 pub mod Shift
+pub mod Filling

@@ -4,3 +4,4 @@ pub mod Fold
 pub mod Keep
 pub mod Packing
 pub mod Stands
+pub mod Filled

@@ -5,6 +5,8 @@ ghost use Rattle.std.specs.Prelude.{◌≡◌};
 ghost use Rattle.std.proofs.lemmas.List.Edits.{sets};
 ghost use Rattle.common.specs.Choice.{pick};
 
+pub mod filled;
+
 // 1 where a test holds, for counting.
 pub fn one_if(test: bool) -> usize
     ensures { result ≡ pick test 1 0 }

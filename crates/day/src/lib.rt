@@ -64,6 +64,7 @@ fn named(fields: Fields) -> TimeOfDay
 }
 
 // What was counted by twice a piece, counted by the piece.
+#[tactic(auto, using(crate::proofs::Halving::one_more, crate::proofs::Halving::none_more))]
 fn halved(count: Count, piece: u32) -> Count
     requires { (0 < piece) × (count.units ≤ 127) }
     ensures { Halved count piece result }
@@ -108,6 +109,7 @@ impl TimeOfDay {
     pub const MIDNIGHT: TimeOfDay = TimeOfDay { milliseconds: 0 };
 
     // The time of day that the fields name, or the first of them that is out of its range.
+    #[tactic(auto, unfolding(crate::specs::Fields::made_of))]
     pub fn made(fields: Fields) -> Result<TimeOfDay, BadField>
         ensures { result ≡ made_of fields }
     {
@@ -127,6 +129,7 @@ impl TimeOfDay {
     }
 
     // Hour, minute, second and millisecond, without division.
+    #[tactic(auto, using(crate::proofs::Halving::left_of_lem, crate::proofs::UnitByUnit::unit_by_unit))]
     pub fn fields(self) -> Fields
         ensures { result ≡ fields_of self }
     {
@@ -143,6 +146,7 @@ impl TimeOfDay {
     }
 
     // Later by any number of milliseconds, past midnight as often as it takes.
+    #[tactic(auto, unfolding(crate::specs::TimeOfDay::forward_of))]
     pub fn forward(self, by: u64) -> TimeOfDay
         ensures { result ≡ forward_of self by }
     {
@@ -152,6 +156,7 @@ impl TimeOfDay {
     }
 
     // How many milliseconds until the clock next reads `moment`: from 1 to a day, a day where it reads it now.
+    #[tactic(auto, using(crate::proofs::Until::until_later, crate::proofs::Until::until_earlier))]
     pub fn until(self, moment: TimeOfDay) -> u32
         ensures { result ≡ until_of self moment }
     {

@@ -11,6 +11,7 @@ use Rattle.common.specs.Choice.{pick}
 use Rattle.common.specs.Packing.{packed_of}
 use Rattle.common.proofs.Cases.{by_test}
 use Rattle.process.specs.declared.Process.{Process}
+use Rattle.common.specs.Filled.{filled_of, pushed_of, items_of}
 use Rattle.semaphores.specs.declared.Unusable.{Unusable}
 use Rattle.semaphores.specs.declared.Requested.{Requested}
 use Rattle.semaphores.specs.declared.Requested.TheVariants.{Held, Waits}
@@ -79,12 +80,12 @@ given_at t x =
 module _ (t : Table) where
   -- nobody is listed in an empty array
   given_none : (answer : Answer) (s : Semaphores) → given_at t (giving answer nothing none_of s) ≡ outcome_of (waking answer [] (with_semaphores t s))
-  unfolding outcome_of listed_of none_of levelled
+  unfolding outcome_of items_of filled_of
   given_none answer s = refl
 
   -- of one number, by a process that may make it
   given_one : (released : Result (Option ℕ) NotReleased) (then : Semaphores) → given_at t (given_by released t.semaphores then) ≡ outcome_of (released_by released t then)
-  unfolding outcome_of listed_of none_of levelled with_of packed_of
+  unfolding outcome_of items_of filled_of pushed_of packed_of
   given_one (Err NotReleased.Unusable) then = given_none _ _
   given_one (Err (NotHolder level)) then = refl
   given_one (Ok None) then = given_none _ _

@@ -25,11 +25,11 @@ use Rattle.process.specs.declared.states.State.{State}
 use Rattle.process.specs.declared.states.State.TheVariants.{Ready, WaitingForMessage, WaitingForSemaphore}
 use Rattle.process.specs.Process.{process_of, moved_to, moved_of}
 use Rattle.process.specs.States.{is_of, next_of}
-use Rattle.semaphores.specs.declared.queues.Queue.{Queue}
+use Rattle.common.specs.Filled.{items_of}
 use Rattle.semaphores.specs.declared.queues.Waiter.{Waiter}
 use Rattle.semaphores.specs.declared.NotReleased.{NotReleased}
 use Rattle.semaphores.specs.declared.Semaphores.{Semaphores}
-use Rattle.semaphores.specs.Queues.{list_of, waits_for, levels_for, without_first}
+use Rattle.semaphores.specs.Queues.{Queue, list_of, waits_for, levels_for, without_first}
 use Rattle.semaphores.specs.Semaphores.{requested_in, released_in, after_request, after_release, free, holder_of, waiters_of, waiter, held_by, holds_of, request_of as requests_of, release_of as releases_of, woken_of, released_from, woken_from}
 use Rattle.semaphores.specs.Turns.{waiting_of, requests, may_request, step_of, Orderly}
 use Rattle.semaphores.proofs.Effects.{by_request, Passed, release_held, release_not_held}
@@ -109,15 +109,15 @@ listed_waits (w ∷ l) (suc i) d less =
     (λ e. rw e (listed_waits l i d (omega arith)))
 
 -- so does who stands at a place of a queue
-queued_waits : (s : Semaphores) → length s.queue.waiters ≡ 12 → (i : ℕ) → i < min s.queue.count 12
-    → stands_in (get_or s.queue.waiters i no_waiter).level (waiters_of s (get_or s.queue.waiters i no_waiter).number) ≡ true
-unfolding waiters_of list_of
+queued_waits : (s : Semaphores) → length s.queue.items ≡ 12 → (i : ℕ) → i < min s.queue.count 12
+    → stands_in (get_or s.queue.items i no_waiter).level (waiters_of s (get_or s.queue.items i no_waiter).number) ≡ true
+unfolding waiters_of items_of
 queued_waits s places i less =
     let q : Queue = s.queue in
-    let long : length (take (min q.count 12) q.waiters) ≡ min q.count 12 = simp length-take (omega arith) in
-    subst (λ (w : Waiter). stands_in w.level (levels_for w.number (take (min q.count 12) q.waiters)) ≡ true)
-    (get_or-take (min q.count 12) q.waiters i no_waiter less)
-    (listed_waits (take (min q.count 12) q.waiters) i no_waiter (omega arith))
+    let long : length (take (min q.count 12) q.items) ≡ min q.count 12 = simp length-take (omega arith) in
+    subst (λ (w : Waiter). stands_in w.level (levels_for w.number (take (min q.count 12) q.items)) ≡ true)
+    (get_or-take (min q.count 12) q.items i no_waiter less)
+    (listed_waits (take (min q.count 12) q.items) i no_waiter (omega arith))
 
 -- ---- levels under another queue
 
@@ -200,7 +200,7 @@ module _ (c : Config) where
   queue_fits s orderly configured =
       rw (le-leb s.queue.count 12 orderly.count)
       (below_every (min s.queue.count 12) _
-      (λ i less. waiter_fits s orderly configured (get_or s.queue.waiters i no_waiter) (queued_waits s orderly.places i less)))
+      (λ i less. waiter_fits s orderly configured (get_or s.queue.items i no_waiter) (queued_waits s orderly.places i less)))
 
 -- ---- the two moves
 

@@ -4,7 +4,8 @@ use mathlib.Core.List.{List}
 use Prim.Native.Nat.{ℕ, ◌≤◌, min}
 use native.Mathlib.Omega.{arith}
 use lib.ListN.{length}
-use Rattle.common.proofs.Packing.{take_packed}
+use Rattle.common.proofs.Filling.{standing_filled}
+use Rattle.common.specs.Filled.{filled_of, items_of}
 use Rattle.semaphores.specs.declared.Semaphores.{Semaphores}
 use Rattle.semaphores.specs.Queues.{levelled}
 use Rattle.semaphores.specs.Semaphores.{woken_from}
@@ -13,8 +14,7 @@ use Rattle.holding.specs.Holding.{listed_of}
 
 -- twelve levels at most are found again in their places
 listed_levelled : (l : List ℕ) → length l ≤ 12 → listed_of (levelled l) ≡ l
-unfolding listed_of levelled
-listed_levelled l fits = let all : min (min (length l) 12) 12 ≡ length l = omega arith in rw all (take_packed 0 12 l fits)
+listed_levelled l fits = standing_filled 12 0 l fits
 
 -- so all that wake are listed
 pub all_listed : (level : ℕ) (s : Semaphores) → listed_of (levelled (woken_from 96 0 level s)) ≡ woken_from 96 0 level s

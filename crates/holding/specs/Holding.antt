@@ -1,20 +1,20 @@
 -- Document 01, "Semaphores", and document 02, §3: REQSEMA and RELSEMA on the whole table.
 use Rattle.std.specs.Prelude.{Option, Some, None, Result, Ok, Err, List, [], ◌∷◌, map, ℕ, min, eqb, set, take}
 use Rattle.common.specs.Choice.{pick}
+use Rattle.common.specs.Filled.{items_of}
 use Rattle.common.specs.Fold.{fold_of}
 use Rattle.inputs.specs.InputSet.{empty_of}
 use Rattle.process.specs.declared.Process.{Process}
 use Rattle.process.specs.declared.states.Cause.TheVariants.{WaitForSemaphore, Handover}
 use Rattle.process.specs.Messages.{zeros}
 use Rattle.process.specs.Process.{moved_of}
-use Rattle.semaphores.specs.declared.queues.Levels.{Levels}
 use Rattle.semaphores.specs.declared.Unusable.{Unusable}
 use Rattle.semaphores.specs.declared.Requested.{Requested}
 use Rattle.semaphores.specs.declared.Requested.TheVariants.{Held, Waits}
 use Rattle.semaphores.specs.declared.NotReleased.{NotReleased}
 use Rattle.semaphores.specs.declared.NotReleased.TheVariants.{NotHolder}
 use Rattle.semaphores.specs.declared.Semaphores.{Semaphores}
-use Rattle.semaphores.specs.Queues.{none_of, with_of}
+use Rattle.semaphores.specs.Queues.{Levels, none_of, with_of}
 use Rattle.semaphores.specs.Semaphores.{requested_in, released_in, after_request, after_release, request_of as requests_of, release_of as releases_of, released_from, woken_from, release_all_of}
 use Rattle.table.specs.declared.answers.Answer.{Answer}
 use Rattle.table.specs.declared.answers.Answer.TheVariants.{ParameterError, NoSemaphoreNumber, Suspended}
@@ -123,8 +123,8 @@ unfoldable pub given_of : Config → Process → Semaphores → ℕ → ℕ → 
 given_of c p s caller number = given_as (by_caller c p caller) s (released_for s caller number)
 
 -- the levels that an array of levels has
-unfoldable pub listed_of : Levels → List ℕ
-listed_of woken = take (min woken.count 12) woken.levels
+abbrev pub listed_of : Levels → List ℕ
+listed_of woken = items_of 12 woken
 
 -- processes to which semaphores were handed over, and their wakes
 pub record Handed : Type 0 where

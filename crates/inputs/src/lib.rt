@@ -13,6 +13,7 @@ pub struct InputSet {
 }
 
 // The set of one input.
+#[tactic(auto, using(crate::proofs::Sets::run_single))]
 fn single(input: u8) -> InputSet
     ensures { result ≡ single_of input }
 {
@@ -20,6 +21,7 @@ fn single(input: u8) -> InputSet
 }
 
 // The set of the inputs below a limit.
+#[tactic(auto, unfolding(crate::specs::InputSet::below_of, crate::specs::InputSet::set_of))]
 fn below(limit: u16) -> InputSet
     ensures { result ≡ below_of limit }
 {
@@ -34,6 +36,7 @@ fn below(limit: u16) -> InputSet
 }
 
 impl InputSet {
+    #[tactic(auto, unfolding(crate::specs::InputSet::empty_of, crate::specs::InputSet::set_of, crate::specs::InputSet::word_of))]
     pub fn empty() -> InputSet
         ensures { result ≡ empty_of }
     {
@@ -41,12 +44,14 @@ impl InputSet {
     }
 
     // The inputs first to last; none where first is beyond last.
+    #[tactic(auto, using(crate::proofs::Sets::except_below))]
     pub fn run(first: u8, last: u8) -> InputSet
         ensures { result ≡ run_of first last }
     {
         below(last as u16 + 1).except(below(first as u16))
     }
 
+    #[tactic(auto, using(crate::proofs::Bits::bit_shifted), unfolding(crate::specs::InputSet::has_of))]
     pub fn has(self, input: u8) -> bool
         ensures { result ≡ has_of self input }
     {
@@ -54,12 +59,14 @@ impl InputSet {
         (word >> (input % 64)) % 2 == 1
     }
 
+    #[tactic(auto, using(crate::proofs::Sets::either_single))]
     pub fn insert(self, input: u8) -> InputSet
         ensures { result ≡ insert_of self input }
     {
         self.either(single(input))
     }
 
+    #[tactic(auto, using(crate::proofs::Sets::except_single))]
     pub fn remove(self, input: u8) -> InputSet
         ensures { result ≡ remove_of self input }
     {

@@ -1,4 +1,3 @@
 pub mod Fitting
 pub mod Deciding
 pub mod Keeping
-pub mod Ruling

@@ -3,6 +3,7 @@
 
 ghost use Rattle.std.specs.Prelude.{◌≡◌, ◌<◌};
 ghost use Rattle.calls.specs.Effects.{outcome_of};
+ghost use Rattle.calls.specs.Levels.{process_of};
 ghost use Rattle.calls.specs.Verdicts.{after, by_caller};
 ghost use Rattle.posting.specs.Posting.{posting_of};
 ghost use Rattle.process.specs.declared.Target.TheVariants.{All, Level};
@@ -91,7 +92,8 @@ fn sent_answer(condition: Condition, fate: Fate) -> Answer
     }
 }
 
-// SEND to one of the twelve levels, in place. Where nobody waited its record is put back as it was.
+// SEND to one of the twelve levels, in place. Where nobody waited its record is put back as it was. Not through `Posting`, as a broadcast is: that would
+// take all twelve records out and put them back.
 fn sent_to(mut table: Table, level: u8, condition: Condition, message: Message) -> Outcome
     requires { level < 12 }
     ensures { result ≡ outcome_of (sent_of table (Level level) condition message) }
@@ -107,11 +109,21 @@ fn sent_to(mut table: Table, level: u8, condition: Condition, message: Message) 
     calls::answered(table, sent_answer(condition, fate), wakes)
 }
 
-// The checks of a call that names receivers: the caller, with this record, may call, and there is such a receiver.
-fn named_checked(config: Config, process: Process, caller: u8, target: Target) -> Result<(), Answer>
-    ensures { result ≡ named_checked config process caller target }
+// SEND whose checks passed: one of the twelve levels is served in place.
+fn served(table: Table, target: Target, condition: Condition, message: Message) -> Outcome
+    ensures { result ≡ outcome_of (sent_of table target condition message) }
 {
-    calls::caller_checked(config, process, caller)?;
+    match target {
+        Target::Level(level) if level < 12 => sent_to(table, level, condition, message),
+        _ => sent(table, target, condition, message),
+    }
+}
+
+// The checks of a call that names receivers: the caller may call, and there is such a receiver.
+fn named_checked(table: &Table, caller: u8, target: Target) -> Result<(), Answer>
+    ensures { result ≡ named_checked table.now.config (process_of table.now caller) caller target }
+{
+    calls::may_call(table, caller)?;
     check(target.is_known(), Answer::ReceiverUnknown)
 }
 
@@ -124,17 +136,13 @@ pub fn send(
 ) -> Outcome
     ensures { result ≡ outcome_of (send_of table caller receiver condition message) }
 {
-    let config = table.config;
-    let processes = table.processes;
-    let process = calls::process_at(processes, caller as u16);
-    let target = config.receiver(receiver);
-    match named_checked(config, process, caller, target) {
-        Err(answer) => table.refused(answer),
-        Ok(()) => match target {
-            Target::Level(level) if level < 12 => sent_to(table, level, condition, message),
-            _ => sent(table, target, condition, message),
-        },
-    }
+    let target = table.config.receiver(receiver);
+    let checked = named_checked(&table, caller, target);
+    calls::obeyed(
+        table,
+        checked,
+        |table| served(table, target, condition, message),
+    )
 }
 
 // The oldest message of a process is handed to it.
@@ -233,15 +241,10 @@ fn cleared(config: Config, processes: [Process; 12], target: Target) -> [Process
 pub fn clear_message(table: Table, caller: u8, receiver: u16) -> Outcome
     ensures { result ≡ outcome_of (clear_message_of table caller receiver) }
 {
-    let config = table.config;
-    let processes = table.processes;
-    let process = calls::process_at(processes, caller as u16);
-    let target = config.receiver(receiver);
-    match named_checked(config, process, caller, target) {
-        Err(answer) => table.refused(answer),
-        Ok(()) => {
-            let processes = cleared(config, processes, target);
-            calls::answered(Table { processes, ..table }, Answer::Ok, Wakes::none())
-        }
-    }
+    let target = table.config.receiver(receiver);
+    let checked = named_checked(&table, caller, target);
+    calls::obeyed(table, checked, |table| {
+        let processes = cleared(table.config, table.processes, target);
+        calls::answered(Table { processes, ..table }, Answer::Ok, Wakes::none())
+    })
 }

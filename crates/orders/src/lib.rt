@@ -29,7 +29,7 @@ pub struct Order {
     pub message: Message,
 }
 
-// The order that was accepted first lies at place 0, and `count` says how many stand. What lies past them makes no difference.
+// The order that was accepted first lies at place 0, and `count` says how many stand. What lies past them makes no difference. No heap: memory is fixed.
 #[derive(Clone, Copy)]
 pub struct Orders {
     pub places: [Order; 64],
@@ -52,7 +52,7 @@ pub enum NotCancelled {
 }
 
 impl NotCancelled {
-    // The answer number of a CANCELSCHEDULE that is refused.
+    // The answer number of a CANCELSCHEDULE that is refused. A method, since a `From` would not say which number it is.
     pub fn number(self) -> u8
         ensures { result ≡ refused_number self }
     {
@@ -146,7 +146,7 @@ impl Order {
     pub fn is_due(self, now: TimeOfDay) -> bool
         ensures { result ≡ due_at now self }
     {
-        self.due.milliseconds == now.milliseconds
+        self.due == now
     }
 
     // After a moment: an order that was due then has one firing less, and leaves after its last or is next due its interval later.

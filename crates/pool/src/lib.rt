@@ -9,7 +9,7 @@ ghost use Rattle.pool.specs.Parts.{put_of, get_of};
 // The largest pool, in bytes.
 pub const LARGEST: u16 = 4_096;
 
-// Stands for a length that was never stated.
+// Stands for a length that was never stated. No Option: no length is as long, and the definitions (`never`) read it so.
 pub const NEVER: u16 = 65_535;
 
 // Who uses the pool, by level.

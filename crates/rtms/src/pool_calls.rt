@@ -22,7 +22,8 @@ pub fn pool_check(table: Table, caller: u8, stated: u16) -> Outcome
     guarded(table, |table| pooling::pool_check(table, caller, stated))
 }
 
-// The table shows no break, and what is lent for the pool has at least the configured size.
+// The table shows no break, and what is lent for the pool has at least the configured size. The two calls that lend a pool make this test where
+// the others are `guarded`: one writes into the pool and one into the buffer, so a closure for both would be no plainer.
 fn lent(table: Table, bytes: usize) -> bool
     ensures { result ≡ sound_of table && leb table.config.pool bytes }
 {

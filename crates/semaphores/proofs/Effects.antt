@@ -13,6 +13,7 @@ use Rattle.common.specs.Choice.{pick}
 use Rattle.common.proofs.Cases.{by_test}
 use Rattle.common.proofs.Packing.{length_packed}
 use Rattle.common.proofs.Parts.{part_length}
+use Rattle.common.specs.Filled.{filled_of}
 use Rattle.semaphores.specs.declared.Semaphores.{Semaphores}
 use Rattle.semaphores.specs.declared.Unusable.{Unusable}
 use Rattle.semaphores.specs.declared.Request.{Request}
@@ -46,13 +47,13 @@ by_request P s level number unusable taken own waits =
 pub record Passed (number : ℕ) (s t : Semaphores) : Type 0 where
   pub holders : t.holders ≡ set s.holders number (get_or (waiters_of s number) 0 free)
   pub queue : list_of t.queue ≡ without_first number (list_of s.queue)
-  pub places : length t.queue.waiters ≡ 12
+  pub places : length t.queue.items ≡ 12
   pub count : t.queue.count ≤ 12
 
 -- so it is with whatever list of levels waits
 handed_passed : (s : Semaphores) (number : ℕ) → Orderly s → (levels : List ℕ) → waiters_of s number ≡ levels
     → Passed number s (handed_on s number (leaving_as levels (queued (without_first number (list_of s.queue))))).semaphores
-unfolding waiters_of queued
+unfolding waiters_of filled_of
 handed_passed s number orderly [] e = record {
   holders = rw e;
   queue = sym (without_none number (list_of s.queue) e);

@@ -15,8 +15,9 @@ use Rattle.common.proofs.Cases.{by_test, never_both, both}
 use Rattle.common.proofs.Packing.{length_packed}
 use Rattle.common.proofs.Parts.{Part, part_map}
 use Rattle.common.proofs.Once.{stands_cases, stands_here, stands_behind, stands_part, once_part, once_behind, once_below}
+use Rattle.common.specs.Filled.{filled_of, pushed_of}
 use Rattle.semaphores.specs.declared.Semaphores.{Semaphores}
-use Rattle.semaphores.specs.Queues.{nobody, list_of, queued, empty_of, push_of, levels_for}
+use Rattle.semaphores.specs.Queues.{nobody, list_of, push_of, levels_for}
 use Rattle.semaphores.specs.Semaphores.{after_request, after_release, usable_of, free, semaphores_of, fresh_of, holder_of, waiters_of, held_by, waiter, request_of, holds_of, release_of, released_from}
 use Rattle.semaphores.specs.Turns.{waiting_of, Step, requests, releases, releases_all, may_request, step_of, after_of, Orderly}
 use Rattle.semaphores.proofs.Numbers.{usable_below, holds_usable}
@@ -30,12 +31,12 @@ stands_nowhere level l e stands = absurd (never_both stands (ap (stands_in level
 
 -- in fresh semaphores nobody waits
 fresh_list : list_of fresh_of.queue ≡ []
-unfolding fresh_of empty_of
+unfolding fresh_of filled_of
 fresh_list = list_queued [] (omega arith)
 
 -- fresh semaphores stand orderly
 pub fresh_orderly : Orderly fresh_of
-unfolding fresh_of empty_of queued waiting_of waiters_of levels_for keep_of Once
+unfolding fresh_of filled_of waiting_of waiters_of levels_for keep_of Once
 fresh_orderly = record {
   numbers = length-replicate 96 free;
   places = length_packed nobody 12 [];
@@ -141,13 +142,13 @@ module _ (s : Semaphores) (level number : ℕ) (orderly : Orderly s) (lets : may
       by_test (stands_in w l) before (λ e. last (eqb-true _ _ (rw (stands_behind w level l, e) at stands)))
 
   -- the queue has its twelve places
-  joined_places : length (joined s level number).queue.waiters ≡ 12
-  unfolding push_of
-  joined_places = rw (lt-ltb _ _ room) (length-set s.queue.waiters _ _ ∙ orderly.places)
+  joined_places : length (joined s level number).queue.items ≡ 12
+  unfolding pushed_of
+  joined_places = rw (lt-ltb _ _ room) (length-set s.queue.items _ _ ∙ orderly.places)
 
   -- and no more in them
   joined_count : (joined s level number).queue.count ≤ 12
-  unfolding push_of
+  unfolding pushed_of
   joined_count = rw (lt-ltb _ _ room) (omega (arith, room))
 
   -- so the semaphores stand orderly after that, if another holds the number

@@ -3,58 +3,47 @@ use mathlib.Core.Path.{◌≡◌, ◌∙◌, refl, ap, sym}
 use mathlib.Core.Bool.{Bool, true, false, not, ◌||◌}
 use Rattle.std.specs.Prelude.{Option, Some, None}
 use Rattle.std.specs.Option.{is_some}
-use mathlib.Core.List.{List, [], ◌∷◌, ◌++◌, map, append-nil, map-append}
-use Prim.Native.Nat.{ℕ, suc, ◌+◌, ◌<◌, ◌≤◌, min}
+use mathlib.Core.List.{List, [], ◌∷◌, ◌++◌, map, map-append}
+use Prim.Native.Nat.{ℕ, ◌<◌, ◌≤◌}
 use native.Mathlib.Omega.{arith}
-use lib.ListN.{length, drop, length-take}
-use lib.Seq.{append_snoc, take-suc-set}
-use borrow.Author.Tests.{eqb-true, ne_eqb, lt-ltb}
+use lib.ListN.{length, drop}
+use borrow.Author.Tests.{eqb-true, ne_eqb}
 use Rattle.common.specs.Choice.{pick}
 use Rattle.common.specs.Fold.{fold_of}
 use Rattle.common.specs.Keep.{keep_of}
 use Rattle.common.proofs.Cases.{by_test, never_both}
 use Rattle.common.proofs.Keep.{keep_append}
-use Rattle.common.proofs.Packing.{take_packed, packed_behind}
+use Rattle.common.proofs.Filling.{standing_short, standing_length, standing_push, standing_filled, push_filled, push_all}
 use Rattle.common.proofs.Parts.{Part, nothing, part_map, part_keep, part_first}
 use Rattle.semaphores.specs.declared.queues.Waiter.{Waiter}
-use Rattle.semaphores.specs.declared.queues.Queue.{Queue}
 use Rattle.semaphores.specs.declared.queues.Leaving.{Leaving}
-use Rattle.semaphores.specs.Queues.{nobody, list_of, queued, push_of, waits_for, levels_for, without_first, leaving_as, levelled, with_of, none_of}
+use Rattle.semaphores.specs.Queues.{Queue, nobody, list_of, queued, push_of, waits_for, levels_for, without_first, leaving_as, levelled, with_of, none_of}
 
 -- a waiter goes behind the list that lies in a queue
 pub push_queued : (l : List Waiter) (w : Waiter) → push_of (queued l) w ≡ queued (l ++ (w ∷ []))
-unfolding push_of queued
-push_queued l w = packed_behind 12 nobody (λ waiters count. record { waiters = waiters; count = count }) l w
+push_queued l w = push_filled 12 nobody l w
 
 -- and a level behind a list of levels
 pub with_levelled : (l : List ℕ) (level : ℕ) → with_of (levelled l) level ≡ levelled (l ++ (level ∷ []))
-unfolding with_of levelled
-with_levelled l level = packed_behind 12 0 (λ levels count. record { levels = levels; count = count }) l level
+with_levelled l level = push_filled 12 0 l level
 
 -- ---- the list of a queue
 
 -- no more than twelve
 pub list_short : (q : Queue) → length (list_of q) ≤ 12
-unfolding list_of
-list_short q = simp length-take (omega arith)
+list_short q = standing_short 12 q
 
 -- as many as the count says
-pub list_length : (q : Queue) → length q.waiters ≡ 12 → q.count ≤ 12 → length (list_of q) ≡ q.count
-unfolding list_of
-list_length q places count = simp length-take (omega arith)
+pub list_length : (q : Queue) → length q.items ≡ 12 → q.count ≤ 12 → length (list_of q) ≡ q.count
+list_length q places count = standing_length 12 q places count
 
 -- where there is room, a waiter goes behind all others
-pub list_push : (q : Queue) (w : Waiter) → length q.waiters ≡ 12 → q.count < 12 → list_of (push_of q w) ≡ list_of q ++ (w ∷ [])
-unfolding list_of push_of
-list_push q w places room =
-    let more : min (q.count + 1) 12 ≡ suc q.count = omega arith in
-    let same : min q.count 12 ≡ q.count = omega arith in
-    rw (lt-ltb _ _ room) (rw (more, same) (take-suc-set q.waiters q.count w (omega arith)))
+pub list_push : (q : Queue) (w : Waiter) → length q.items ≡ 12 → q.count < 12 → list_of (push_of q w) ≡ list_of q ++ (w ∷ [])
+list_push q w places room = standing_push 12 q w places room
 
 -- a list of twelve at most is found again in its queue
 pub list_queued : (l : List Waiter) → length l ≤ 12 → list_of (queued l) ≡ l
-unfolding list_of queued
-list_queued l fits = let all : min (min (length l) 12) 12 ≡ length l = omega arith in rw all (take_packed nobody 12 l fits)
+list_queued l fits = standing_filled 12 nobody l fits
 
 -- ---- the levels that wait for a number
 
@@ -162,12 +151,6 @@ leaving_none (first ∷ others) q e = cc
 
 -- ---- the list of levels that are woken
 
--- levels one after the other go behind those that are there
-with_all : (m l : List ℕ) → fold_of with_of (levelled m) l ≡ levelled (m ++ l)
-with_all m [] = rw append-nil
-with_all m (level ∷ l) = rw with_levelled (with_all (m ++ (level ∷ [])) l ∙ rw append_snoc)
-
--- and from none on they are the list
+-- levels one after the other go behind each other, and from none on they are the list
 pub with_list : (l : List ℕ) → fold_of with_of none_of l ≡ levelled l
-unfolding none_of
-with_list l = with_all [] l
+with_list l = push_all 12 0 [] l

@@ -13,10 +13,9 @@ use Rattle.common.proofs.Cases.{by_test, never_both}
 use Rattle.common.proofs.Once.{stands_cases, stands_part, stands_either, once_part, once_append}
 use Rattle.common.proofs.Parts.{Part, part_all, part_map, part_length}
 use Rattle.semaphores.specs.declared.queues.Waiter.{Waiter}
-use Rattle.semaphores.specs.declared.queues.Queue.{Queue}
 use Rattle.semaphores.specs.declared.NotReleased.{NotReleased}
 use Rattle.semaphores.specs.declared.Semaphores.{Semaphores}
-use Rattle.semaphores.specs.Queues.{list_of, queued, waits_for, levels_for, without_first, leaving_as, leaving_of}
+use Rattle.semaphores.specs.Queues.{Queue, list_of, queued, waits_for, levels_for, without_first, leaving_as, leaving_of}
 use Rattle.semaphores.specs.Semaphores.{released_in, after_release, waiters_of, handed_on, holds_of, release_of, woken_of, woken_from}
 use Rattle.semaphores.specs.Turns.{waiting_of}
 use Rattle.semaphores.proofs.Effects.{release_not_held}

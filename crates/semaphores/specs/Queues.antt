@@ -1,30 +1,36 @@
 -- Who waits, in order of arrival. Definitions go by the list of those that wait; `queued` says how such a list lies in the code's array.
-use Rattle.std.specs.Prelude.{Bool, Option, Some, None, List, [], ◌∷◌, map, ℕ, ◌+◌, min, eqb, ltb, length, take, set}
+use Rattle.std.specs.Prelude.{Bool, Option, Some, None, List, [], ◌∷◌, map, ℕ, eqb}
 use Rattle.common.specs.Choice.{pick}
 use Rattle.common.specs.Keep.{keep_of}
-use Rattle.common.specs.Packing.{packed_of}
+use Rattle.common.specs.declared.filled.Filled.{Filled}
+use Rattle.common.specs.Filled.{items_of, filled_of, pushed_of}
 use Rattle.semaphores.specs.declared.queues.Waiter.{Waiter}
-use Rattle.semaphores.specs.declared.queues.Queue.{Queue}
-use Rattle.semaphores.specs.declared.queues.Levels.{Levels}
 use Rattle.semaphores.specs.declared.queues.Leaving.{Leaving}
+
+-- those that wait, and a list of levels, in twelve places
+abbrev pub Queue : Type 0
+Queue = Filled Waiter 12
+
+abbrev pub Levels : Type 0
+Levels = Filled ℕ 12
 
 abbrev pub nobody : Waiter
 nobody = record { level = 0; number = 0 }
 
 -- the waiters of a queue, the first to arrive first
-unfoldable pub list_of : Queue → List Waiter
-list_of q = take (min q.count 12) q.waiters
+abbrev pub list_of : Queue → List Waiter
+list_of q = items_of 12 q
 
 -- a list of waiters in a queue of twelve places
-unfoldable pub queued : List Waiter → Queue
-queued l = record { waiters = packed_of 12 nobody l; count = min (length l) 12 }
+abbrev pub queued : List Waiter → Queue
+queued l = filled_of 12 nobody l
 
-unfoldable pub empty_of : Queue
+abbrev pub empty_of : Queue
 empty_of = queued []
 
 -- behind all others
-unfoldable pub push_of : Queue → Waiter → Queue
-push_of q w = pick (ltb q.count 12) (record { waiters = set q.waiters q.count w; count = q.count + 1 }) q
+abbrev pub push_of : Queue → Waiter → Queue
+push_of q w = pushed_of 12 q w
 
 abbrev pub waits_for : ℕ → Waiter → Bool
 waits_for number w = eqb w.number number
@@ -49,11 +55,11 @@ leaving_of q number = leaving_as (levels_for number (list_of q)) (queued (withou
 
 -- ---- lists of levels
 
-unfoldable pub levelled : List ℕ → Levels
-levelled l = record { levels = packed_of 12 0 l; count = min (length l) 12 }
+abbrev pub levelled : List ℕ → Levels
+levelled l = filled_of 12 0 l
 
-unfoldable pub none_of : Levels
+abbrev pub none_of : Levels
 none_of = levelled []
 
-unfoldable pub with_of : Levels → ℕ → Levels
-with_of ls level = pick (ltb ls.count 12) (record { levels = set ls.levels ls.count level; count = ls.count + 1 }) ls
+abbrev pub with_of : Levels → ℕ → Levels
+with_of ls level = pushed_of 12 ls level

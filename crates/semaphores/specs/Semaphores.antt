@@ -3,7 +3,6 @@ use Rattle.std.specs.Prelude.{Bool, false, Option, Some, None, Result, Ok, Err, 
 use Rattle.common.specs.Choice.{pick}
 use Rattle.common.specs.Fold.{fold_of}
 use Rattle.semaphores.specs.declared.queues.Waiter.{Waiter}
-use Rattle.semaphores.specs.declared.queues.Queue.{Queue}
 use Rattle.semaphores.specs.declared.queues.Leaving.{Leaving}
 use Rattle.semaphores.specs.declared.Semaphores.{Semaphores}
 use Rattle.semaphores.specs.declared.Unusable.{Unusable}
@@ -14,7 +13,7 @@ use Rattle.semaphores.specs.declared.Release.{Release}
 use Rattle.semaphores.specs.declared.NotReleased.{NotReleased}
 use Rattle.semaphores.specs.declared.NotReleased.TheVariants.{NotHolder}
 use Rattle.semaphores.specs.declared.ReleaseAll.{ReleaseAll}
-use Rattle.semaphores.specs.Queues.{empty_of, push_of, leaving_of, levels_for, list_of, levelled, with_of}
+use Rattle.semaphores.specs.Queues.{Queue, empty_of, push_of, leaving_of, levels_for, list_of, levelled, with_of}
 
 -- document 02, §2: "Its text is right: usable are 0..31 and 50..95; .. and 49 is not usable." (Document 01 had the manual's table, 51..95.)
 unfoldable pub usable_of : ℕ → Bool

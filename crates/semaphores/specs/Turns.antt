@@ -61,7 +61,7 @@ joins_of number (releases_all level) s = []
 pub record Orderly (s : Semaphores) : Type 0 where
   -- the arrays are whole, and the count says how many wait
   pub numbers : length s.holders ≡ 96
-  pub places : length s.queue.waiters ≡ 12
+  pub places : length s.queue.items ≡ 12
   pub count : s.queue.count ≤ 12
   -- each level that waits is one of the twelve, and waits once
   pub known : (w : ℕ) → stands_in w (waiting_of s) ≡ true → w < 12

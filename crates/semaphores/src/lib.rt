@@ -8,7 +8,7 @@ pub mod queues;
 
 use queues::{Levels, Queue, Waiter};
 
-// Stands for a holder where there is none.
+// Stands for a holder where there is none. No Option: document 02 answers 255 for a free semaphore, and the definitions (`free`) read it so.
 pub const FREE: u8 = 255;
 
 #[derive(Clone, Copy)]
@@ -116,7 +116,7 @@ impl Semaphores {
     {
         Semaphores {
             holders: [FREE; 96],
-            queue: Queue::empty(),
+            queue: Queue::empty(Waiter::NOBODY),
         }
     }
 
@@ -165,7 +165,7 @@ impl Semaphores {
             return Err(NotReleased::NotHolder(holder));
         }
         let mut semaphores = self;
-        let Some(leaving) = self.queue.leaving(number) else {
+        let Some(leaving) = queues::first_leaving(self.queue, number) else {
             semaphores.holders[at] = FREE;
             return Ok(Release {
                 handed_to: None,
@@ -185,7 +185,7 @@ impl Semaphores {
         ensures { result ≡ release_all_of self level }
     {
         let mut all = ReleaseAll {
-            woken: Levels::none(),
+            woken: Levels::empty(0),
             semaphores: self,
         };
         for number in 0..96 {
@@ -207,7 +207,7 @@ impl ReleaseAll {
             return self;
         };
         let woken = match release.handed_to {
-            Some(to) => self.woken.with(to),
+            Some(to) => self.woken.push(to),
             None => self.woken,
         };
         ReleaseAll {

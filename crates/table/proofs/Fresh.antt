@@ -14,7 +14,8 @@ use Rattle.orders.specs.Orders.{none_of, orders_of}
 use Rattle.pool.specs.Control.{never, fresh_of as fresh_pool}
 use Rattle.process.specs.Process.{fresh_of as fresh_process}
 use Rattle.process.specs.Messages.{empty_of as empty_buffer}
-use Rattle.semaphores.specs.Queues.{empty_of as empty_queue, queued, list_of}
+use Rattle.common.specs.Filled.{filled_of, items_of}
+use Rattle.semaphores.specs.Queues.{empty_of as empty_queue}
 use Rattle.semaphores.specs.Semaphores.{free, fresh_of as fresh_semaphores}
 use Rattle.table.specs.declared.configs.Config.{Config}
 use Rattle.table.specs.Configuration.{levels_good, scheduler_good, places_good, all_privileged_good, pool_good, configured_of, good_of}
@@ -32,7 +33,7 @@ module _ (c : Config) where
 
   -- each process is INACT, with nothing kept, and not queued
   level_fresh : (level : ℕ) → level_sound c empty_queue level fresh_process ≡ true
-  unfolding level_sound times_of keep_of list_of empty_queue queued packed_of empty_buffer
+  unfolding level_sound times_of keep_of items_of filled_of packed_of empty_buffer
   level_fresh level = either_true (not (configured_of c level)) _ (rw (leb-zero c.places))
 
   levels_fresh : levels_sound c empty_queue (replicate 12 fresh_process) ≡ true
@@ -48,7 +49,7 @@ module _ (c : Config) where
   holders_fresh = below_every 96 _ (λ number h. rw (get_or-replicate 96 number free 0 h))
 
   queue_fresh : queue_sound c (replicate 96 free) empty_queue ≡ true
-  unfolding queue_sound every_below empty_queue queued
+  unfolding queue_sound every_below filled_of
   queue_fresh = refl
 
   -- nobody has stated a length

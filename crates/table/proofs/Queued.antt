@@ -17,9 +17,9 @@ use Rattle.common.proofs.Once.{stands_taken, counted_once}
 use Rattle.process.specs.declared.Process.{Process}
 use Rattle.process.specs.declared.states.State.TheVariants.{WaitingForSemaphore}
 use Rattle.process.specs.States.{is_of}
-use Rattle.semaphores.specs.declared.queues.Queue.{Queue}
+use Rattle.common.specs.Filled.{items_of}
 use Rattle.semaphores.specs.declared.queues.Waiter.{Waiter}
-use Rattle.semaphores.specs.Queues.{list_of}
+use Rattle.semaphores.specs.Queues.{Queue, list_of}
 use Rattle.semaphores.specs.Semaphores.{free, usable_of}
 use Rattle.semaphores.specs.Turns.{waiting_of}
 use Rattle.table.specs.declared.configs.Config.{Config}
@@ -40,11 +40,11 @@ module _ (c : Config) where
   -- and so is every level that waits in a sound queue
   queue_configured : (holders : List ℕ) (q : Queue) → queue_sound c holders q ≡ true
       → (level : ℕ) → stands_in level (map (λ w. w.level) (list_of q)) ≡ true → configured_of c level ≡ true
-  unfolding queue_sound list_of
+  unfolding queue_sound items_of
   queue_configured holders q sound =
-      let all = (both_true (leb q.count 12) (every_below (min q.count 12) (λ i. waiter_sound c holders (get_or q.waiters i no_waiter))) sound).1 in
-      stands_taken (λ w. w.level) (λ level. configured_of c level ≡ true) (min q.count 12) q.waiters no_waiter
-      (λ i h. waiter_configured holders (get_or q.waiters i no_waiter) (every_below_lem (min q.count 12) _ all i h))
+      let all = (both_true (leb q.count 12) (every_below (min q.count 12) (λ i. waiter_sound c holders (get_or q.items i no_waiter))) sound).1 in
+      stands_taken (λ w. w.level) (λ level. configured_of c level ≡ true) (min q.count 12) q.items no_waiter
+      (λ i h. waiter_configured holders (get_or q.items i no_waiter) (every_below_lem (min q.count 12) _ all i h))
 
   -- a sound level that is configured is queued once at most
   level_queued : (q : Queue) (level : ℕ) (p : Process) → level_sound c q level p ≡ true → configured_of c level ≡ true → times_of level q ≤ 1

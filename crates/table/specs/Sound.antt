@@ -16,9 +16,8 @@ use Rattle.process.specs.declared.Condition.TheVariants.{Always}
 use Rattle.process.specs.declared.Process.{Process}
 use Rattle.process.specs.declared.states.State.TheVariants.{Inactive, WaitingForMessage, WaitingForSemaphore}
 use Rattle.process.specs.States.{is_of}
-use Rattle.semaphores.specs.declared.queues.Queue.{Queue}
 use Rattle.semaphores.specs.declared.queues.Waiter.{Waiter}
-use Rattle.semaphores.specs.Queues.{list_of}
+use Rattle.semaphores.specs.Queues.{Queue, list_of}
 use Rattle.semaphores.specs.Semaphores.{free, usable_of}
 use Rattle.table.specs.declared.configs.Config.{Config}
 use Rattle.table.specs.declared.Table.{Table}
@@ -93,7 +92,7 @@ no_waiter = record { level = 0; number = 0 }
 
 -- "a number beyond its limit": more waiters than levels
 unfoldable pub queue_sound : Config → List ℕ → Queue → Bool
-queue_sound c holders q = leb q.count 12 && every_below (min q.count 12) (λ i. waiter_sound c holders (get_or q.waiters i no_waiter))
+queue_sound c holders q = leb q.count 12 && every_below (min q.count 12) (λ i. waiter_sound c holders (get_or q.items i no_waiter))
 
 -- "a number beyond its limit": a bit of a mask or a latch beyond the card
 unfoldable pub on_card : Config → InputSet → Bool

@@ -17,7 +17,7 @@ fn times(queue: &Queue, level: u8) -> usize
     ensures { result ≡ times_of level queue.now }
 {
     queue
-        .waiters
+        .items
         .iter()
         .take(queue.count)
         .filter(|waiter| waiter.level == level)
@@ -91,7 +91,7 @@ fn queue_sound(config: Config, holders: &[u8; 96], queue: &Queue) -> bool
     ensures { result ≡ queue_sound config holders.now queue.now }
 {
     let all = queue
-        .waiters
+        .items
         .iter()
         .take(queue.count)
         .all(|waiter| waiter_sound(config, holders, waiter));

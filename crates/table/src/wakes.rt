@@ -37,7 +37,7 @@ impl Wake {
         woken: Woken::ByEvent(InputSet { words: [0; 4] }),
     };
 
-    // The answer number with which it wakes.
+    // The answer number with which it wakes. A method, since a `From<Wake>` would not say which number it is.
     pub fn number(self) -> u8
         ensures { result ≡ wake_number_of self }
     {

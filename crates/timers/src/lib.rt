@@ -9,10 +9,9 @@ ghost use Rattle.timers.specs.Timers.{moment_of, order_of, ordered, schedule_ver
 use calls::check;
 use day::{BadField, Fields, TimeOfDay};
 use orders::{NotCancelled, Order};
+use process::Condition;
 use process::buffers::Message;
-use process::{Condition, Process};
 use table::answers::Answer;
-use table::configs::Config;
 use table::wakes::Wakes;
 use table::{Outcome, Scheduler, Table, configs};
 
@@ -21,6 +20,7 @@ use table::{Outcome, Scheduler, Table, configs};
 pub struct NewOrder {
     pub receiver: u16,
     pub condition: Condition,
+    // No Option beside `time`: a relative order may have anything in its fields (the edit `a_relative_orders_fields_are_tested`).
     pub absolute: bool,
     // The time of day of an absolute order; a relative one may have anything here.
     pub time: Fields,
@@ -81,20 +81,16 @@ fn entered(table: Table, order: Order) -> Outcome
 }
 
 // The checks of SCHEDULE, but for the last, which is whether a place is left.
-fn schedule_checked(
-    config: Config,
-    processes: [Process; 12],
-    caller: u8,
-    new: NewOrder,
-    moment: Moment,
-) -> Result<(), Answer>
-    ensures { result ≡ schedule_verdict config processes caller new moment }
+fn schedule_checked(table: &Table, caller: u8, new: NewOrder, moment: Moment) -> Result<(), Answer>
+    ensures { result ≡ schedule_verdict table.now.config table.now.processes caller new moment }
 {
-    let process = calls::process_at(processes, caller as u16);
     let backward = LONG_NEGATIVE <= new.to;
     let negative = configs::NEGATIVE <= new.count;
-    calls::caller_checked(config, process, caller)?;
-    check(config.has_level(new.receiver), Answer::ReceiverUnknown)?;
+    calls::may_call(table, caller)?;
+    check(
+        table.config.has_level(new.receiver),
+        Answer::ReceiverUnknown,
+    )?;
     check(!backward, Answer::ParameterError)?;
     check(!negative, Answer::ParameterError)?;
     check(moment.is_ok(), Answer::ParameterError)
@@ -103,18 +99,12 @@ fn schedule_checked(
 pub fn schedule(table: Table, caller: u8, new: NewOrder) -> Outcome
     ensures { result ≡ outcome_of (schedule_of table caller new) }
 {
-    let config = table.config;
-    let clock = table.clock;
-    let processes = table.processes;
-    let time = new.time;
-    let moment = moment_of(new.absolute, time);
-    match schedule_checked(config, processes, caller, new, moment) {
-        Err(answer) => table.refused(answer),
-        Ok(()) => {
-            let order = order(clock, caller, new.receiver as u8, moment, new);
-            entered(table, order)
-        }
-    }
+    let moment = moment_of(new.absolute, new.time);
+    let checked = schedule_checked(&table, caller, new, moment);
+    calls::obeyed(table, checked, |table| {
+        let order = order(table.clock, caller, new.receiver as u8, moment, new);
+        entered(table, order)
+    })
 }
 
 // The answer of a CANCELSCHEDULE that is refused.
@@ -149,30 +139,19 @@ fn cancelled(table: Table, sender: u16, receiver: u16) -> Outcome
 pub fn cancel_schedule(table: Table, caller: u8, sender: u16, receiver: u16) -> Outcome
     ensures { result ≡ outcome_of (cancel_schedule_of table caller sender receiver) }
 {
-    let config = table.config;
-    let processes = table.processes;
-    let process = calls::process_at(processes, caller as u16);
-    match calls::caller_checked(config, process, caller) {
-        Err(answer) => table.refused(answer),
-        Ok(()) => cancelled(table, sender, receiver),
-    }
+    let checked = calls::may_call(&table, caller);
+    calls::obeyed(table, checked, |table| cancelled(table, sender, receiver))
 }
 
 // The next tick stops the scheduler.
 pub fn shutdown(table: Table, caller: u8) -> Outcome
     ensures { result ≡ outcome_of (shutdown_of table caller) }
 {
-    let config = table.config;
-    let processes = table.processes;
-    let process = calls::process_at(processes, caller as u16);
-    match calls::caller_checked(config, process, caller) {
-        Err(answer) => table.refused(answer),
-        Ok(()) => {
-            let mut changed = table;
-            changed.scheduler.switch = true;
-            calls::answered(changed, Answer::Ok, Wakes::none())
-        }
-    }
+    let checked = calls::may_call(&table, caller);
+    calls::obeyed(table, checked, |mut table| {
+        table.scheduler.switch = true;
+        calls::answered(table, Answer::Ok, Wakes::none())
+    })
 }
 
 pub fn start_scheduler(table: Table) -> Outcome
@@ -190,12 +169,8 @@ pub fn start_scheduler(table: Table) -> Outcome
 pub fn read_time(table: Table, caller: u8) -> Outcome
     ensures { result ≡ outcome_of (read_time_of table caller) }
 {
-    let config = table.config;
-    let clock = table.clock;
-    let processes = table.processes;
-    let process = calls::process_at(processes, caller as u16);
-    match calls::caller_checked(config, process, caller) {
-        Err(answer) => table.refused(answer),
-        Ok(()) => calls::with_number(table, clock.milliseconds as u64, Wakes::none()),
-    }
+    let checked = calls::may_call(&table, caller);
+    calls::obeyed(table, checked, |table| {
+        calls::with_number(table, table.clock.milliseconds as u64, Wakes::none())
+    })
 }

@@ -1,3 +1,4 @@
+use Rattle.common.specs.Filled.{items_of}
 use Rattle.std.proofs.Common.{rules, ◌≡◌, ◌∙◌, length, get_or, set, map, refl, ap, sym, subst, arith, length-set}
 use mathlib.Core.Path.{ap₂}
 use lib.ListN.{drop_of_length-le}
@@ -57,7 +58,7 @@ loop-level-preserved c =
     }
 
 pub returns : goal.returns
-unfolding listed_of
+unfolding items_of
 returns c =
     let loop = c.loop-level in
     let given = c.given-given in

@@ -1,11 +1,11 @@
-use borrow.Author.Tests.{eq-eqb, ne_eqb}
 use Rattle.pooling.specs.Pooling.{pool_by}
+use Rattle.pooling.proofs.Granted.{is_ok}
 use Rattle.pooling.proofs.put_granted.Goals as goal
 
-pub returns-then-number-eq0 : goal.returns-then-number-eq0
+pub returns-then-eq : goal.returns-then-eq
 unfolding pool_by
-returns-then-number-eq0 c = rw (← c.number.ensures, eq-eqb _ 0 c.if-number-eq0.true) c.put.ensures
+returns-then-eq c = rw (← is_ok, ← c.eq.ensures, c.if-eq.true) c.put.ensures
 
-pub returns-else-number-eq0 : goal.returns-else-number-eq0
+pub returns-else-eq : goal.returns-else-eq
 unfolding pool_by
-returns-else-number-eq0 c = rw (← c.number.ensures, ne_eqb _ 0 c.if-number-eq0.false)
+returns-else-eq c = rw (← is_ok, ← c.eq.ensures, c.if-eq.false)

@@ -1,33 +1,16 @@
-use mathlib.Core.Path.{◌∙◌}
-use native.Mathlib.Omega.{arith}
-use Rattle.calls.proofs.Obeying.{refused_by, passed_all}
-use Rattle.timers.specs.Timers.{moment_of, schedule_of}
+use Rattle.std.proofs.Common.{sym, ◌∙◌, rules, arith}
+use Rattle.timers.specs.Timers.{schedule_of}
 use Rattle.timers.proofs.Fitting.{receiver_fits}
 use Rattle.timers.proofs.schedule.Goals as goal
 
-pub overflow_cast-new : goal.overflow_cast-new
-overflow_cast-new c =
-    let checked = c in
-    let given = checked.args in
-    let moment = moment_of given.new.absolute given.new.time in
-    omega (
-      arith,
-      receiver_fits given.table.config given.table.processes given.caller given.new moment
-          (rw (← checked.moment_of-moment.ensures, ← checked.schedule_checked.ensures) c.in-Ok.is),
-    )
+pub obeyed-requires : goal.obeyed-requires
+obeyed-requires c passed = omega (
+  arith,
+  receiver_fits c.args.table.config c.args.table.processes c.args.caller c.args.new c.moment_of-moment.result (sym c.schedule_checked-checked.ensures ∙ passed),
+)
 
-pub returns-in-Err : goal.returns-in-Err
+pub returns : goal.returns
 unfolding schedule_of
-returns-in-Err c =
-    let checked = c in
-    refused_by _ _ _ _ _ c.refused.ensures
-    (rw (← checked.moment_of-moment.ensures, ← checked.schedule_checked.ensures) c.in-Err.is)
-
-pub returns-in-Ok : goal.returns-in-Ok
-unfolding schedule_of
-returns-in-Ok c =
-    let told = c in
-    let checked = told in
-    passed_all _ _ _ _
-    (c.entered.ensures ∙ rw (c.order-order.ensures, checked.moment_of-moment.ensures))
-    (rw (← checked.moment_of-moment.ensures, ← checked.schedule_checked.ensures) told.in-Ok.is)
+returns c =
+    rw (← c.moment_of-moment.ensures, ← c.schedule_checked-checked.ensures)
+    (c.obeyed.ensures _ (λ passed r ran. search rules))

@@ -2,17 +2,17 @@ use Rattle.std.proofs.lemmas.Result.{err_from_is_err_and}
 use Rattle.calls.specs.Verdicts.{also_of}
 use Rattle.timers.proofs.schedule_checked.Goals as goal
 
-pub returns-in_err-caller_checked : goal.returns-in_err-caller_checked
+pub returns-in_err-may_call : goal.returns-in_err-may_call
 unfolding also_of
-returns-in_err-caller_checked c =
+returns-in_err-may_call c =
     let p = err_from_is_err_and c.from_residual.result c.from_residual.ensures.1 in
-    rw (p.1, p.2, ← c.process_at-process.ensures, ← c.in_err-caller_checked.ensures)
+    rw (p.1, p.2, ← c.in_err-may_call.ensures)
 
 pub returns-in_err-check : goal.returns-in_err-check
 unfolding also_of
 returns-in_err-check c =
     let p = err_from_is_err_and c.from_residual-in_err-check.result c.from_residual-in_err-check.ensures.1 in
-    rw (p.1, p.2, ← c.process_at-process.ensures, ← c.in_ok-caller_checked.ensures, ← c.has_level.ensures, ← c.in_err-check.ensures)
+    rw (p.1, p.2, ← c.in_ok-may_call.ensures, ← c.has_level.ensures, ← c.in_err-check.ensures)
 
 pub returns-in_err-check-2 : goal.returns-in_err-check-2
 unfolding also_of
@@ -21,8 +21,7 @@ returns-in_err-check-2 c =
     rw (
       p.1,
       p.2,
-      ← c.process_at-process.ensures,
-      ← c.in_ok-caller_checked.ensures,
+      ← c.in_ok-may_call.ensures,
       ← c.has_level.ensures,
       ← c.in_ok-check.ensures,
       ← c.in_err-check-2.ensures,
@@ -35,8 +34,7 @@ returns-in_err-check-3 c =
     rw (
       p.1,
       p.2,
-      ← c.process_at-process.ensures,
-      ← c.in_ok-caller_checked.ensures,
+      ← c.in_ok-may_call.ensures,
       ← c.has_level.ensures,
       ← c.in_ok-check.ensures,
       ← c.in_ok-check-2.ensures,
@@ -49,8 +47,7 @@ returns c =
     rw (
       c.check-4.ensures,
       c.is_ok.ensures.value,
-      ← c.process_at-process.ensures,
-      ← c.in_ok-caller_checked.ensures,
+      ← c.in_ok-may_call.ensures,
       ← c.has_level.ensures,
       ← c.in_ok-check.ensures,
       ← c.in_ok-check-2.ensures,

@@ -10,6 +10,6 @@ pub returns : goal.returns
 unfolding also_of
 returns c =
     elim c.match-release-2.branch [
-      | in-Some w ↦ rw (w.woken-is, w.with-woken.ensures, ← c.in-Ok.ensures, w.in-Some.is)
+      | in-Some w ↦ rw (w.woken-is, w.push-woken.ensures, ← c.in-Ok.ensures, w.in-Some.is)
       | in-None w ↦ rw (w.woken-is, ← c.in-Ok.ensures, w.in-None.is)
     ]

@@ -25,4 +25,4 @@ loop-number-preserved c =
 pub returns : goal.returns
 returns c =
     let ended : c.loop-number.number ≡ 96 = omega arith in
-    sym (finished_none 96 _ _) ∙ (rw ended at c.loop-number.invariant) ∙ rw c.none.ensures (finished_all _ _)
+    sym (finished_none 96 _ _) ∙ (rw ended at c.loop-number.invariant) ∙ rw c.empty.ensures (finished_all _ _)

@@ -12,10 +12,10 @@ unfolding queue_sound
 returns c =
     let queue = c.args.queue.now in
     let sound = waiter_sound c.args.config c.args.holders.now in
-    let long : length queue.waiters ≡ 12 = search (rules, of_map) in
+    let long : length queue.items ≡ 12 = search (rules, of_map) in
     let every_waiter : c.all-all.result ≡ _ =
     all_from_yields_List sound _ _ c.all-all.result c.all-all.ensures.ran
-    (YieldsList-from_take queue.count (YieldsList-at c.take.ensures.source (YieldsList-from_slice queue.waiters c.iter.ensures.rest)) c.take.ensures.count)
+    (YieldsList-from_take queue.count (YieldsList-at c.take.ensures.source (YieldsList-from_slice queue.items c.iter.ensures.rest)) c.take.ensures.count)
     (λ x b q k. search (rules, tests))
-    ∙ all_first sound no_waiter queue.waiters queue.count in
+    ∙ all_first sound no_waiter queue.items queue.count in
     rw (every_waiter, long)
