@@ -15,7 +15,6 @@ use Rattle.table.specs.declared.answers.Answer.{Answer}
 use Rattle.table.specs.declared.answers.Answer.TheVariants.{NoUser}
 use Rattle.table.specs.declared.Table.{Table}
 use Rattle.table.specs.Configuration.{configured_of}
-use Rattle.table.specs.Wakes.{no_wakes_of}
 use Rattle.table.proofs.Configured.{configured_level}
 use Rattle.calls.specs.declared.Decided.{Decided}
 use Rattle.calls.specs.Decisions.{decided, decided_by, told_of, decided_at}
@@ -50,11 +49,11 @@ module _ (t : Table) (caller : ℕ) (other : Process) (whole : length t.processe
 -- a refusal leaves the record where it is
 decided_refused : (t : Table) (at : ℕ) (other : Process) (answer : Answer)
     → decided_at t at (decided answer nothing (get_or t.processes at other)) ≡ outcome_of (refuse t answer)
-unfolding told_of outcome_of no_wakes_of
+unfolding told_of outcome_of
 decided_refused t at other answer = rw set-get_or
 
 -- by what the checks decide
-decided_verdict : (v : Checked) (t : Table) (at : ℕ) (x : Decided) (effect : Effect) → decided_at t at x ≡ outcome_of effect
+decided_verdict : (v : Checked) (t : Table) (at : ℕ) (x : Decided Process) (effect : Effect) → decided_at t at x ≡ outcome_of effect
     → decided_at t at (decided_by v (process_of t at) x) ≡ outcome_of (obeyed v t effect)
 unfolding obeyed process_at
 decided_verdict (Ok tt) t at x effect obeys = obeys
@@ -72,7 +71,7 @@ unfolding also_of
 first_fails holds answer l fails = rw fails (after_refused answer l)
 
 -- a call of a level, whose first check is that the level is configured
-module _ (t : Table) (level : ℕ) (other : Process) (whole : length t.processes ≡ 12) (rest : Process → List Check) (decide : Process → Decided) (effect : Effect) where
+module _ (t : Table) (level : ℕ) (other : Process) (whole : length t.processes ≡ 12) (rest : Process → List Check) (decide : Process → Decided Process) (effect : Effect) where
   abbrev checks : Process → List Check
   checks p = check (configured_of t.config level) NoUser ∷ rest p
 

@@ -39,7 +39,7 @@ use Rattle.calls.proofs.Obeying.{last_passed}
 -- how a table stands along a run: its arrays are whole, none of the breaks shows, and its semaphores stand orderly
 pub record Steady (t : Table) : Type 0 where
   pub processes : length t.processes ≡ 12
-  pub places : length t.orders.places ≡ 64
+  pub places : length t.orders.list.items ≡ 64
   pub parts : SoundParts t
   pub orderly : Orderly t.semaphores
 
@@ -74,7 +74,7 @@ module _ (t : Table) where
   steady_changed : (clock : TimeOfDay) (scheduler : Scheduler) (ps : List Process) (orders : Orders) (mask latch : InputSet) (pool : Control) → Steady t
       → ltb clock.milliseconds day ≡ true
       → (length ps ≡ 12) × (levels_sound t.config t.semaphores.queue ps ≡ true)
-      → (length orders.places ≡ 64) × (orders_sound t.config orders ≡ true)
+      → (length orders.list.items ≡ 64) × (orders_sound t.config orders ≡ true)
       → on_card t.config mask ≡ true
       → on_card t.config latch ≡ true
       → pool_sound t.config pool ≡ true
@@ -100,7 +100,7 @@ module _ (t : Table) where
   levels_of : Steady t → (length t.processes ≡ 12) × (levels_sound t.config t.semaphores.queue t.processes ≡ true)
   levels_of steady = (steady.processes, steady.parts.levels)
 
-  orders_of_lem : Steady t → (length t.orders.places ≡ 64) × (orders_sound t.config t.orders ≡ true)
+  orders_of_lem : Steady t → (length t.orders.list.items ≡ 64) × (orders_sound t.config t.orders ≡ true)
   orders_of_lem steady = (steady.places, steady.parts.orders)
 
   -- another word of the scheduler
@@ -128,7 +128,7 @@ module _ (t : Table) where
       steady.parts.clock (levels_of steady) (orders_of_lem steady) steady.parts.mask card steady.parts.pool
 
   -- other sound orders, in as many places
-  pub steady_orders : (o : Orders) → Steady t → length o.places ≡ 64 → orders_sound t.config o ≡ true → Steady (with_orders t o)
+  pub steady_orders : (o : Orders) → Steady t → length o.list.items ≡ 64 → orders_sound t.config o ≡ true → Steady (with_orders t o)
   steady_orders o steady whole sound =
       steady_changed t.clock t.scheduler t.processes o t.mask t.latch t.pool steady
       steady.parts.clock (levels_of steady) (whole, sound) steady.parts.mask steady.parts.latch steady.parts.pool
@@ -170,7 +170,7 @@ passed_caller c p caller checks passed =
 -- what a change of a process must keep, so that its level stays sound whatever the queue is
 pub record Tame (places : ℕ) (p then : Process) : Type 0 where
   pub priority : leb p.priority 63 ≡ true → leb then.priority 63 ≡ true
-  pub kept : leb p.buffer.count places ≡ true → none_kept p ≡ true → (leb then.buffer.count places ≡ true) × (none_kept then ≡ true)
+  pub kept : leb p.buffer.list.count places ≡ true → none_kept p ≡ true → (leb then.buffer.list.count places ≡ true) × (none_kept then ≡ true)
   pub queued : is_of then.state WaitingForSemaphore ≡ is_of p.state WaitingForSemaphore
 
 module _ (c : Config) (q : Queue) where
@@ -203,7 +203,7 @@ module _ (c : Config) (q : Queue) where
       let tests : process_within c p && none_kept p && queued_as_it_waits q level p ≡ true = rw configured at sound in
       let to_queued = both_true (process_within c p && none_kept p) (queued_as_it_waits q level p) tests in
       let to_kept = both_true (process_within c p) (none_kept p) to_queued.0 in
-      let to_count = both_true (leb p.priority 63) (leb p.buffer.count c.places) to_kept.0 in
+      let to_count = both_true (leb p.priority 63) (leb p.buffer.list.count c.places) to_kept.0 in
       let kept = tame.kept to_count.1 to_kept.1 in
       rw (configured, tame.priority to_count.0, kept.0, kept.1, tame.queued) to_queued.1)
       (λ other. rw other)

@@ -1,5 +1,5 @@
 -- What the checks of a call decide. Assumes nothing.
-use mathlib.Core.Path.{◌≡◌, refl, sym, ◌∙◌}
+use mathlib.Core.Path.{◌≡◌, ◌∙◌, refl, ap, sym}
 use mathlib.Core.Bool.{Bool, true, false}
 use mathlib.Core.List.{List, []}
 use Prim.Native.Nat.{ℕ}
@@ -9,16 +9,17 @@ use Rattle.table.specs.declared.answers.Answer.{Answer}
 use Rattle.table.specs.declared.answers.Answer.TheVariants.{Ok}
 use Rattle.table.specs.declared.Outcome.{Outcome}
 use Rattle.table.specs.declared.Table.{Table}
-use Rattle.table.specs.Table.{refused_of}
+use Rattle.table.specs.declared.Said.{Said}
+use Rattle.table.specs.Table.{refused_of, said_of}
 use Rattle.table.specs.declared.wakes.Wake.{Wake}
 use Rattle.table.specs.Wakes.{no_wakes_of, wakes_of}
-use Rattle.calls.specs.Effects.{Effect, number, waking, refuse, outcome_of}
+use Rattle.calls.specs.Effects.{Effect, Has, number, waking, refuse, outcome_of}
 use Rattle.calls.specs.Outcomes.{answered_of, carries_number}
 use Rattle.calls.specs.Verdicts.{Checked, also_of, obeyed}
 
 -- a refusal, as it lies in the code's result
 pub outcome_refuse : (t : Table) (answer : Answer) → outcome_of (refuse t answer) ≡ refused_of t answer
-unfolding outcome_of refused_of no_wakes_of
+unfolding outcome_of refused_of
 outcome_refuse t answer = refl
 
 -- an answer with wakes, and one with none
@@ -27,13 +28,22 @@ unfolding outcome_of answered_of
 outcome_waking t answer wakes = refl
 
 pub outcome_alone : (t : Table) (answer : Answer) → answered_of t answer no_wakes_of ≡ outcome_of (waking answer [] t)
-unfolding outcome_of answered_of no_wakes_of
+unfolding outcome_of answered_of
 outcome_alone t answer = refl
 
 -- a number with wakes
 pub outcome_number : (t : Table) (n : ℕ) (wakes : List Wake) → carries_number t n (wakes_of wakes) ≡ outcome_of (record { answer = Ok; carried = number n; wakes = wakes; table = t })
 unfolding outcome_of carries_number
 outcome_number t n wakes = refl
+
+-- what is said, beside the table that is left
+abbrev beside : Said → Table → Outcome
+beside said left = record { answer = said.answer; shown = said.shown; wakes = said.wakes; table = left }
+
+-- a table changed in place, by the outcome of the effect
+pub has_of : (e : Effect) (said : Said) (left : Table) → beside said left ≡ outcome_of e → Has e said left
+unfolding outcome_of
+has_of e said left same = record { says = ap (λ (o : Outcome). said_of o) same; leaves = ap (λ (o : Outcome). o.table) same }
 
 -- a call whose checks refuse it
 pub refused_by : (v : Checked) (t : Table) (effect : Effect) (answer : Answer) (r : Outcome)

@@ -1,4 +1,4 @@
--- What a call decides that changes one process's record alone, and how a table takes it.
+-- What a call decides that changes one part of a table alone, and how a table takes it.
 use Rattle.std.specs.Prelude.{ℕ, min, get_or, Ok, Err}
 use Rattle.process.specs.declared.Process.{Process}
 use Rattle.process.specs.Process.{fresh_of}
@@ -11,24 +11,24 @@ use Rattle.calls.specs.Effects.{Carried, nothing, shown_by}
 use Rattle.calls.specs.Levels.{with_process}
 use Rattle.calls.specs.Verdicts.{Checked}
 
--- an answer, what it carries, and the record
-abbrev pub decided : Answer → Carried → Process → Decided
-decided answer carried p =
-    record { answer = answer; shown = shown_by carried; process = p }
+-- an answer, what it carries, and the part
+abbrev pub decided : {T : Type 0} → Answer → Carried → T → Decided T
+decided answer carried part =
+    record { answer = answer; shown = shown_by carried; part = part }
 
--- where the checks refuse the call, the record stays as it is
-abbrev pub decided_by : Checked → Process → Decided → Decided
-decided_by (Ok tt) p x = x
-decided_by (Err answer) p x = decided answer nothing p
+-- where the checks refuse the call, the part stays as it is
+abbrev pub decided_by : {T : Type 0} → Checked → T → Decided T → Decided T
+decided_by (Ok tt) part x = x
+decided_by (Err answer) part x = decided answer nothing part
 
 -- beside a table
-unfoldable pub told_of : Table → Decided → Outcome
+unfoldable pub told_of : {T : Type 0} → Table → Decided T → Outcome
 told_of t x =
     record { answer = x.answer; shown = x.shown; wakes = no_wakes_of; table = t }
 
--- with the record at its place
-abbrev pub decided_at : Table → ℕ → Decided → Outcome
-decided_at t at x = told_of (with_process t at x.process) x
+-- a process's record, at its place
+abbrev pub decided_at : Table → ℕ → Decided Process → Outcome
+decided_at t at x = told_of (with_process t at x.part) x
 
 -- the record that is looked at: the level's own, or one that makes no difference, since a level above 11 is not configured
 abbrev pub looked_at : Table → ℕ → Process

@@ -1,10 +1,11 @@
 -- Document 01: "one call, outside event or clock tick in; the new table, the answer and the wakes out". What a call does, with its wakes as a list;
 -- `outcome_of` says how that lies in the code's result.
-use Rattle.std.specs.Prelude.{List, [], ℕ}
+use Rattle.std.specs.Prelude.{◌≡◌, List, [], ℕ}
 use Rattle.inputs.specs.declared.InputSet.{InputSet}
 use Rattle.process.specs.declared.buffers.Message.{Message}
 use Rattle.table.specs.declared.answers.Answer.{Answer}
 use Rattle.table.specs.declared.wakes.Wake.{Wake}
+use Rattle.table.specs.declared.Said.{Said}
 use Rattle.table.specs.declared.Shown.{Shown}
 use Rattle.table.specs.declared.Outcome.{Outcome}
 use Rattle.table.specs.declared.Table.{Table}
@@ -74,3 +75,12 @@ outcome_of e = record {
   wakes = wakes_of e.wakes;
   table = e.table;
 }
+
+-- what it says, without the table
+abbrev pub said_by : Effect → Said
+said_by e = record { answer = e.answer; shown = shown_by e.carried; wakes = wakes_of e.wakes }
+
+-- an effect on a table that is changed in place: what is said, and the table that is left
+pub record Has (e : Effect) (said : Said) (left : Table) : Type 0 where
+  pub says : said ≡ said_by e
+  pub leaves : left ≡ e.table

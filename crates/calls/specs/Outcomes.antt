@@ -1,23 +1,20 @@
 -- The code's results, each by the effect that it is.
 use Rattle.std.specs.Prelude.{ℕ}
-use Rattle.process.specs.declared.marking.Told.{Told}
-use Rattle.process.specs.declared.marking.Told.TheVariants.{Nothing, Overflow, Time}
 use Rattle.table.specs.declared.answers.Answer.{Answer}
-use Rattle.table.specs.declared.answers.Answer.TheVariants.{Ok, BufferOverflow, TimeCondition}
-use Rattle.table.specs.declared.wakes.Wakes.{Wakes}
+use Rattle.table.specs.declared.answers.Answer.TheVariants.{Ok}
+use Rattle.table.specs.declared.Said.{Said}
 use Rattle.table.specs.declared.Shown.{Shown}
 use Rattle.table.specs.declared.Outcome.{Outcome}
 use Rattle.table.specs.declared.Table.{Table}
+use Rattle.table.specs.Wakes.{Wakes}
 
 -- the number and the wakes, and nothing else
 unfoldable pub answered_of : Table → Answer → Wakes → Outcome
 answered_of t answer wakes = record { answer = answer; shown = Shown.Nothing; wakes = wakes; table = t }
 
--- a message is handed over with "overflow (5) before time (14)", or 0
-abbrev pub told_as : Told → Answer
-told_as Nothing = Ok
-told_as Overflow = BufferOverflow
-told_as Time = TimeCondition
+-- the same, without the table
+abbrev pub saying : Answer → Wakes → Said
+saying answer wakes = record { answer = answer; shown = Shown.Nothing; wakes = wakes }
 
 -- an answer, what it carries, and the wakes
 abbrev pub replied_of : Table → Answer → Shown → Wakes → Outcome

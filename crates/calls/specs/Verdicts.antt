@@ -10,6 +10,7 @@ use Rattle.table.specs.declared.answers.Answer.TheVariants.{NoUser, NotReady}
 use Rattle.table.specs.declared.configs.Config.{Config}
 use Rattle.table.specs.declared.Table.{Table}
 use Rattle.table.specs.Configuration.{configured_of}
+use Rattle.calls.specs.declared.Caller.{Caller}
 use Rattle.calls.specs.Effects.{Effect, refuse}
 use Rattle.calls.specs.Levels.{process_of}
 
@@ -46,6 +47,10 @@ obeyed (Err answer) t effect = refuse t answer
 -- "NOUSER, then NOTREADY"
 abbrev pub by_caller : Config → Process → ℕ → Checked
 by_caller c p caller = after (Ok tt) (check (configured_of c caller) NoUser ∷ check (is_of p.state Ready) NotReady ∷ [])
+
+-- who calls, by its level
+abbrev pub caller_of : Table → ℕ → Caller
+caller_of t level = record { config = t.config; process = process_of t level; level = level }
 
 -- a call of no process: its own list
 abbrev pub checked : Table → List Check → Effect → Effect

@@ -2,20 +2,22 @@
 #![tactic(auto)]
 
 ghost use Rattle.std.specs.Prelude.{◌≡◌, Ok, min, set};
-ghost use Rattle.calls.specs.Decisions.{decided, told_of, looked_at, decided_at};
+ghost use Rattle.std.specs.Borrow.{MutBor};
+ghost use Rattle.table.specs.declared.answers.Answer.{Answer};
+ghost use Rattle.table.specs.Wakes.{no_wakes_of};
+ghost use Rattle.calls.specs.Decisions.{decided, decided_by, told_of, looked_at, decided_at};
 ghost use Rattle.calls.specs.declared.Decided.{Decided};
-ghost use Rattle.calls.specs.Effects.{Effect, nothing, outcome_of};
+ghost use Rattle.calls.specs.Effects.{Effect, nothing, outcome_of, Has};
 ghost use Rattle.calls.specs.Levels.{process_at, process_of};
-ghost use Rattle.calls.specs.Verdicts.{check_of, by_caller, obeyed};
-ghost use Rattle.calls.specs.Outcomes.{answered_of, carries_number, replied_of, told_as};
+ghost use Rattle.calls.specs.Verdicts.{check_of, by_caller, caller_of, obeyed};
+ghost use Rattle.calls.specs.Outcomes.{answered_of, saying, carries_number, replied_of};
 
 use process::Process;
-use process::marking::Told;
 use process::states::State;
 use table::answers::Answer;
 use table::configs::Config;
-use table::wakes::Wakes;
-use table::{Outcome, Shown, Table};
+use table::wakes::{self, Wakes};
+use table::{Outcome, Said, Shown, Table};
 
 // One check of a call: what must hold, and the number that refuses the call where it does not. A call makes its checks in their order, each by
 // a `?`, so that the first that fails refuses it.
@@ -26,13 +28,13 @@ pub fn check(holds: bool, answer: Answer) -> Result<(), Answer>
 }
 
 // The process at a level; one that was never started where there is no such level.
-pub fn process_at(processes: [Process; 12], level: u16) -> Process
-    ensures { result ≡ process_at processes level }
+pub fn process_at(processes: &[Process], level: u16) -> Process
+    ensures { result ≡ process_at processes.now level }
 {
-    match processes.get(level as usize) {
-        Some(process) => *process,
-        None => Process::fresh(),
-    }
+    processes
+        .get(level as usize)
+        .copied()
+        .unwrap_or_else(Process::fresh)
 }
 
 // The processes with another one at a level.
@@ -47,88 +49,155 @@ pub fn with_process(processes: [Process; 12], level: u16, process: Process) -> [
     changed
 }
 
-// The two checks of every process's call: the caller is configured, and it is neither INACT nor waits.
-pub fn caller_checked(config: Config, process: Process, caller: u8) -> Result<(), Answer>
-    ensures { result ≡ by_caller config process caller }
-{
-    check(config.has_level(caller as u16), Answer::NoUser)?;
-    check(process.state == State::Ready, Answer::NotReady)
+// Who calls: its level, the record that stands for it, and the configuration. What a call decides, it decides on these first.
+#[derive(Clone, Copy)]
+pub struct Caller {
+    pub config: Config,
+    pub process: Process,
+    pub level: u8,
 }
 
-// The same two checks of a caller whose record no other check looks at.
-pub fn may_call(table: &Table, caller: u8) -> Result<(), Answer>
-    ensures { result ≡ by_caller table.now.config (process_of table.now caller) caller }
-{
-    let process = process_at(table.processes, caller as u16);
-    caller_checked(table.config, process, caller)
+impl Caller {
+    // The two checks of every process's call: the caller is configured, and it is neither INACT nor waits.
+    #[tactic(auto, using(process::proofs::Moves::same_state), unfolding(crate::specs::Verdicts::also_of))]
+    pub fn checked(&self) -> Result<(), Answer>
+        ensures { result ≡ by_caller self.now.config self.now.process self.now.level }
+    {
+        check(self.config.has_level(self.level as u16), Answer::NoUser)?;
+        check(self.process.state == State::Ready, Answer::NotReady)
+    }
 }
 
-// A call on a table, by what became of its checks: it runs where all of them passed, and else the first that failed refuses it. Whatever effect
-// the call has on the table, obeyed it has that.
-pub fn obeyed<F: FnOnce(Table) -> Outcome>(
+// The caller at a level of a table; one that was never started where there is no such level.
+pub fn caller_at(table: &Table, level: u8) -> Caller
+    ensures { result ≡ caller_of table.now level }
+{
+    Caller {
+        config: table.config,
+        process: process_at(&table.processes, level as u16),
+        level,
+    }
+}
+
+// The checks of a process's call, where no other check looks at the caller.
+pub fn may_call(table: &Table, level: u8) -> Result<(), Answer>
+    ensures { result ≡ by_caller table.now.config (process_of table.now level) level }
+{
+    caller_at(table, level).checked()
+}
+
+// What is said by an answer that carries nothing, and who wakes.
+pub fn said(answer: Answer, wakes: Wakes) -> Said
+    ensures { result ≡ saying answer wakes }
+{
+    Said {
+        answer,
+        shown: Shown::Nothing,
+        wakes,
+    }
+}
+
+// 0, and nothing else.
+pub fn done() -> Said
+    ensures { result ≡ saying Answer.Ok no_wakes_of }
+{
+    said(Answer::Ok, wakes::none())
+}
+
+// A call on a table, by what became of its checks: where all of them passed, it changes the table in place, which is copied once in and once out;
+// else the first that failed refuses it. Whatever effect the call has on the table, obeyed it has that.
+pub fn obeyed<F: FnOnce(&mut Table) -> Said>(
     table: Table,
     checked: Result<(), Answer>,
     call: F,
 ) -> Outcome
-    requires { checked ≡ Ok tt → F.pre call table }
-    ensures { (effect : Effect) → (checked ≡ Ok tt → (r : Outcome) → F.post call table r → r ≡ outcome_of effect) → result ≡ outcome_of (obeyed checked table effect) }
+    requires { checked ≡ Ok tt → (lent : MutBor Table) → lent.now ≡ table → F.pre call lent }
+    ensures { (effect : Effect) → ((lent left : MutBor Table) (said : Said) → checked ≡ Ok tt → lent.now ≡ table
+        → F.FnOnce.post call (lent, tt) (said, (left, tt)) → Has effect said left.now) → result ≡ outcome_of (obeyed checked table effect) }
 {
-    match checked {
-        Ok(()) => call(table),
-        Err(answer) => table.refused(answer),
+    let mut after = table;
+    let said = match checked {
+        Ok(()) => call(&mut after),
+        Err(answer) => said(answer, wakes::none()),
+    };
+    Outcome {
+        answer: said.answer,
+        shown: said.shown,
+        wakes: said.wakes,
+        table: after,
     }
 }
 
-// What a call decides that changes the record of one process and nothing else: the answer, what it carries, and that record. Decided on small
-// parts, it is then put into a table in place, which is copied once in and once out.
-#[derive(Drop)]
-pub struct Decided {
+// What a call decides that changes one part of a table and nothing else: the answer, what it carries, and that part, as the record of one process.
+// Decided on small parts, it is then put into a table in place, which is copied once in and once out.
+#[derive(Clone, Copy)]
+pub struct Decided<T> {
     pub answer: Answer,
     pub shown: Shown,
-    pub process: Process,
+    pub part: T,
 }
 
-impl Decided {
+impl<T: Copy> Decided<T> {
     // An answer that carries nothing.
-    pub fn alone(answer: Answer, process: Process) -> Decided
-        ensures { result ≡ decided answer nothing process }
+    pub fn alone(answer: Answer, part: T) -> Decided<T>
+        ensures { result ≡ decided answer nothing part }
     {
         Decided {
             answer,
             shown: Shown::Nothing,
-            process,
+            part,
         }
     }
 }
 
-// What was decided, beside a table in which the record stands.
-pub fn told(table: Table, decided: Decided) -> Outcome
+// What a call decides on a part, by what became of its checks: where one failed, the first that did refuses it, and the part stays as it is.
+// Whatever is decided where all of them passed, ruled it is that.
+// The part is lent: handed over by value and on to the closure, it was copied once more for each record of a listing (1 to 3 of 100 instructions).
+pub fn ruled<T: Copy, F: FnOnce() -> Decided<T>>(
+    checked: Result<(), Answer>,
+    part: &T,
+    decide: F,
+) -> Decided<T>
+    requires { checked ≡ Ok tt → F.pre decide }
+    ensures { (comes : Decided T) → ((decided : Decided T) → checked ≡ Ok tt → F.post decide decided → decided ≡ comes) → result ≡ decided_by checked part.now comes }
+{
+    match checked {
+        Ok(()) => decide(),
+        Err(answer) => Decided::alone(answer, *part),
+    }
+}
+
+// What was decided, beside a table in which the part stands.
+#[tactic(auto, unfolding(crate::specs::Decisions::told_of))]
+pub fn told<T: Copy>(table: Table, decided: Decided<T>) -> Outcome
     ensures { result ≡ told_of table decided }
 {
-    Outcome {
-        answer: decided.answer,
-        shown: decided.shown,
-        wakes: Wakes::none(),
-        table,
-    }
+    replied(table, decided.answer, decided.shown, wakes::none())
+}
+
+// The place of the record on which a level's call is decided: the level's own. A level above 11 has none, and is refused whatever record stands in for it:
+// the last one, which is put back as it was.
+pub fn place_of(level: u16) -> usize
+    ensures { result ≡ min level 11 }
+{
+    (level as usize).min(11)
 }
 
 // A call that changes the record at a level, and nothing else of the table. What it comes to is decided on small parts, and the table is changed
 // in place: it is copied once in and once out.
-pub fn on_record<F: FnOnce(Config, Process) -> Decided>(
+pub fn on_record<F: FnOnce(Config, Process) -> Decided<Process>>(
     table: Table,
     level: u16,
     decide: F,
 ) -> Outcome
     requires { F.pre decide table.config (looked_at table level) }
-    ensures { (decided : Decided) × F.post decide table.config (looked_at table level) decided
+    ensures { (decided : Decided Process) × F.post decide table.config (looked_at table level) decided
         × (result ≡ decided_at table (min level 11) decided) }
 {
     let mut after = table;
-    // A level above 11 is refused whatever record stands in for its own, and that one is put back as it was.
-    let at = (level as usize).min(11);
+    let at = place_of(level);
     let decided = decide(after.config, after.processes[at]);
-    after.processes[at] = decided.process;
+    after.processes[at] = decided.part;
     told(after, decided)
 }
 
@@ -139,17 +208,6 @@ pub fn answered(table: Table, answer: Answer, wakes: Wakes) -> Outcome
     let mut outcome = table.refused(answer);
     outcome.wakes = wakes;
     outcome
-}
-
-// The answer with which a message is handed over.
-pub fn told_as(told: Told) -> Answer
-    ensures { result ≡ told_as told }
-{
-    match told {
-        Told::Nothing => Answer::Ok,
-        Told::Overflow => Answer::BufferOverflow,
-        Told::Time => Answer::TimeCondition,
-    }
 }
 
 // An answer, what it carries, and who wakes.

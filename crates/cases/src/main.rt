@@ -137,10 +137,10 @@ fn schedule(table: Table, to: u32) -> Outcome {
 // The clock and `to` of a relative order, how many orders stand then, and when the first is due.
 fn due(rt: &impl Print, clock: TimeOfDay, to: u32) {
     let orders = schedule(started(clock), to).table.orders;
-    let moment = orders.places[0].due;
+    let moment = orders.list.items[0].due;
     let _ = println!(rt;
         "due {} {to} {} {}",
-        clock.milliseconds, orders.count, moment.milliseconds
+        clock.milliseconds, orders.list.count, moment.milliseconds
     );
 }
 

@@ -3,7 +3,8 @@ use mathlib.Core.Path.{◌≡◌, ◌∙◌, refl, ap}
 use mathlib.Core.List.{List, [], ◌∷◌, ◌++◌}
 use Prim.Native.Nat.{ℕ, zero, suc, ◌+◌, ◌<◌, ◌≤◌, min}
 use native.Mathlib.Omega.{arith}
-use lib.ListN.{length, replicate, length-take}
+use lib.Dec.{ltb}
+use lib.ListN.{length, replicate, length-set, length-take}
 use lib.Seq.{append_snoc, take-suc-set}
 use mathlib.Core.List.{append-nil}
 use borrow.Author.Tests.{lt-ltb}
@@ -11,6 +12,7 @@ use Rattle.common.specs.Fold.{fold_of}
 use Rattle.common.specs.Packing.{packed_of}
 use Rattle.common.specs.Filled.{items_of, filled_of, pushed_of}
 use Rattle.common.specs.declared.filled.Filled.{Filled}
+use Rattle.common.proofs.Cases.{by_test}
 use Rattle.common.proofs.Packing.{take_packed, packed_behind}
 
 -- nothing but the filler
@@ -37,6 +39,16 @@ module _ {T : Type 0} (N : ℕ) where
       let more : min (f.count + 1) N ≡ suc f.count = omega arith in
       let same : min f.count N ≡ f.count = omega arith in
       rw (lt-ltb _ _ room) (rw (more, same) (take-suc-set f.items f.count x (omega arith)))
+
+  -- and the count is one more
+  pub push_count : (f : Filled T N) (x : T) → f.count < N → (pushed_of N f x).count ≡ f.count + 1
+  unfolding pushed_of
+  push_count f x room = rw (lt-ltb _ _ room)
+
+  -- as many places as before, whether there is room or not
+  pub push_places : (f : Filled T N) (x : T) → length (pushed_of N f x).items ≡ length f.items
+  unfolding pushed_of
+  push_places f x = by_test (ltb f.count N) (λ e. rw e (length-set f.items f.count x)) (λ e. rw e)
 
   -- a list that fits is found again in its places
   pub standing_filled : (filler : T) (l : List T) → length l ≤ N → items_of N (filled_of N filler l) ≡ l

@@ -2,7 +2,7 @@
 ghost use Rattle.std.specs.Prelude.{◌≡◌, []};
 ghost use Rattle.common.specs.Filled.{items_of, filled_of, pushed_of};
 
-// As many items as the count says, the first at place 0.
+// As many items as the count says, the first at place 0. An array and a count, since all memory is fixed: there is no heap.
 #[derive(Clone, Copy)]
 pub struct Filled<T, const N: usize> {
     pub items: [T; N],
@@ -21,17 +21,22 @@ impl<T: Copy, const N: usize> Filled<T, N> {
     }
 
     // One item more, behind the others. Where all places are taken it is left out.
-    pub fn push(self, item: T) -> Filled<T, N>
-        ensures { result ≡ pushed_of N self item }
+    #[tactic(auto, unfolding(crate::specs::Filled::pushed_of))]
+    pub fn put(&mut self, item: T)
+        ensures { self.new ≡ pushed_of N self.old item }
     {
         if self.count < N {
-            let mut filled = self;
-            filled.items[self.count] = item;
-            filled.count = self.count + 1;
-            filled
-        } else {
-            self
+            self.items[self.count] = item;
+            self.count += 1;
         }
+    }
+
+    // The same for who holds the items by value.
+    pub fn push(mut self, item: T) -> Filled<T, N>
+        ensures { result ≡ pushed_of N self item }
+    {
+        self.put(item);
+        self
     }
 
     // Those that are there, in order.

@@ -7,7 +7,7 @@ ghost use Rattle.common.specs.Choice.{pick};
 
 pub mod filled;
 
-// 1 where a test holds, for counting.
+// 1 where a test holds, for counting. A name for one call of the library's, which docs/PROMISES.md promises (`pick`, the edit `counts_what_fails`).
 pub fn one_if(test: bool) -> usize
     ensures { result ≡ pick test 1 0 }
 {

@@ -1,5 +1,5 @@
 -- What is decided on the parts of a table comes to what the call does. Assumes nothing.
-use mathlib.Core.Path.{◌≡◌, refl}
+use mathlib.Core.Path.{◌≡◌, ◌∙◌, refl, ap}
 use Rattle.std.specs.Prelude.{Option, Some, None, Result, Ok, Err}
 use mathlib.Core.List.{[], map}
 use Prim.Native.Nat.{ℕ, min}
@@ -18,20 +18,20 @@ use Rattle.semaphores.specs.declared.Requested.TheVariants.{Held, Waits}
 use Rattle.semaphores.specs.declared.NotReleased.{NotReleased}
 use Rattle.semaphores.specs.declared.NotReleased.TheVariants.{NotHolder}
 use Rattle.semaphores.specs.declared.Semaphores.{Semaphores}
-use Rattle.semaphores.specs.Queues.{levelled, none_of, with_of}
+use Rattle.semaphores.specs.Queues.{none_of}
 use Rattle.semaphores.specs.Semaphores.{requested_in, released_in, after_request, after_release, request_of as requests_of, release_of as releases_of, release_all_of}
 use Rattle.table.specs.declared.answers.Answer.{Answer}
-use Rattle.table.specs.declared.answers.Answer.TheVariants.{NoUser}
 use Rattle.table.specs.declared.Outcome.{Outcome}
 use Rattle.table.specs.declared.Table.{Table}
-use Rattle.table.specs.Wakes.{no_wakes_of, wakes_of}
+use Rattle.table.specs.Wakes.{wakes_of}
 use Rattle.table.specs.Words.{minus_one}
+use Rattle.calls.specs.declared.Decided.{Decided}
+use Rattle.calls.specs.Decisions.{told_of}
 use Rattle.calls.specs.Effects.{nothing, waking, outcome_of}
 use Rattle.calls.specs.Levels.{process_at, process_of, with_processes, with_semaphores}
-use Rattle.calls.specs.Outcomes.{answered_of, replied_of}
+use Rattle.calls.specs.Outcomes.{replied_of}
 use Rattle.calls.specs.Verdicts.{Checked, also_of, obeyed, by_caller}
 use Rattle.calls.proofs.Deciding.{own_or_other}
-use Rattle.calls.proofs.Obeying.{outcome_alone}
 use Rattle.holding.specs.declared.AfterRequest.{AfterRequest}
 use Rattle.holding.specs.declared.AfterRelease.{AfterRelease}
 use Rattle.holding.specs.Holding.{requested_by, requested_of, request_of, handover_wake, handed_to, released_by, released_of, released_all_of, release_of, asked_by, requested_for, asked_as, asked_of, giving, given_by, released_for, given_as, given_of, listed_of}
@@ -40,24 +40,24 @@ use Rattle.holding.proofs.Room.{all_listed}
 -- ---- a request
 
 -- the table with what a request came to, at the place of the caller's record
-abbrev pub asked_at : Table → ℕ → AfterRequest → Outcome
-asked_at t at x = answered_of (with_semaphores (with_processes t (set t.processes at x.process)) x.semaphores) x.answer no_wakes_of
+abbrev pub asked_at : Table → ℕ → Decided AfterRequest → Outcome
+asked_at t at x = told_of (with_semaphores (with_processes t (set t.processes at x.part.process)) x.part.semaphores) x
 
 module _ (t : Table) (at : ℕ) where
   -- of a process that may make one
   asked_passed : (requested : Result Requested Unusable) (then : Semaphores)
       → asked_at t at (asked_by requested (process_of t at) t.semaphores then) ≡ outcome_of (requested_by requested t then at)
-  unfolding process_at
-  asked_passed (Err why) then = rw set-get_or (outcome_alone _ _)
-  asked_passed (Ok Held) then = rw set-get_or (outcome_alone _ _)
-  asked_passed (Ok Waits) then = outcome_alone _ _
+  unfolding told_of outcome_of process_at
+  asked_passed (Err why) then = rw set-get_or
+  asked_passed (Ok Held) then = rw set-get_or
+  asked_passed (Ok Waits) then = refl
 
   -- by what the checks decide
   asked_by_lem : (v : Checked) (number : ℕ)
       → asked_at t at (asked_as v (process_of t at) t.semaphores (requested_for (process_of t at) t.semaphores at number)) ≡ outcome_of (obeyed v t (requested_of t at number))
-  unfolding obeyed requested_for requested_of process_at
+  unfolding obeyed requested_for requested_of told_of outcome_of process_at
   asked_by_lem (Ok tt) number = asked_passed (requested_in (requests_of t.semaphores at number)) (after_request t.semaphores (requests_of t.semaphores at number))
-  asked_by_lem (Err answer) number = rw set-get_or (outcome_alone _ _)
+  asked_by_lem (Err answer) number = rw set-get_or
 
 -- the record that is looked at is the caller's own, or it makes no difference
 module _ (t : Table) (caller number : ℕ) (other : Process) (whole : length t.processes ≡ 12) where
@@ -67,15 +67,15 @@ module _ (t : Table) (caller number : ℕ) (other : Process) (whole : length t.p
       own_or_other t caller other whole
       (λ at p. asked_at t at (asked_of t.config p t.semaphores caller number) ≡ outcome_of (request_of t caller number))
       (asked_by_lem t caller (by_caller t.config (process_of t caller) caller) number)
-      (λ nobody at. unfold also_of obeyed in rw (nobody, set-get_or) (outcome_alone _ _))
+      (λ nobody at. unfold also_of obeyed told_of outcome_of in rw (nobody, set-get_or))
 
 -- ---- a release
 
 -- the table with what a release came to
-abbrev pub given_at : Table → AfterRelease → Outcome
+abbrev pub given_at : Table → Decided AfterRelease → Outcome
 given_at t x =
-    replied_of (with_processes (with_semaphores t x.semaphores) (handed_to t.processes (listed_of x.woken))) x.answer x.shown
-    (wakes_of (map handover_wake (listed_of x.woken)))
+    replied_of (with_processes (with_semaphores t x.part.semaphores) (handed_to t.processes (listed_of x.part.woken))) x.answer x.shown
+    (wakes_of (map handover_wake (listed_of x.part.woken)))
 
 module _ (t : Table) where
   -- nobody is listed in an empty array
@@ -107,11 +107,11 @@ module _ (t : Table) where
       (λ one. rw one (given_one (released_in (releases_of t.semaphores caller number)) (after_release t.semaphores (releases_of t.semaphores caller number))))
   given_by_lem (Err answer) caller number = given_none answer t.semaphores
 
-module _ (t : Table) (caller number : ℕ) (other : Process) (whole : length t.processes ≡ 12) where
-  pub given_all : given_at t (given_of t.config (get_or t.processes (min caller 11) other) t.semaphores caller number) ≡ outcome_of (release_of t caller number)
-  unfolding release_of given_of
-  given_all =
-      own_or_other t caller other whole
-      (λ at p. given_at t (given_of t.config p t.semaphores caller number) ≡ outcome_of (release_of t caller number))
-      (given_by_lem t (by_caller t.config (process_of t caller) caller) caller number)
-      (λ nobody at. unfold also_of obeyed in rw nobody (given_none t NoUser t.semaphores))
+-- only the caller's two checks look at a record: the caller's own, or one on which they come to the same
+pub given_all : (t : Table) (caller number : ℕ) (seen : Process)
+    → by_caller t.config seen caller ≡ by_caller t.config (process_of t caller) caller
+    → given_at t (given_of t.config seen t.semaphores caller number) ≡ outcome_of (release_of t caller number)
+unfolding release_of given_of
+given_all t caller number seen same =
+    ap (λ (v : Checked). given_at t (given_as v t.semaphores (released_for t.semaphores caller number))) same
+    ∙ given_by_lem t (by_caller t.config (process_of t caller) caller) caller number

@@ -1,11 +1,9 @@
 -- Whom a release of all wakes are all listed. Assumes nothing.
 use mathlib.Core.Path.{◌≡◌}
 use mathlib.Core.List.{List}
-use Prim.Native.Nat.{ℕ, ◌≤◌, min}
-use native.Mathlib.Omega.{arith}
+use Prim.Native.Nat.{ℕ, ◌≤◌}
 use lib.ListN.{length}
 use Rattle.common.proofs.Filling.{standing_filled}
-use Rattle.common.specs.Filled.{filled_of, items_of}
 use Rattle.semaphores.specs.declared.Semaphores.{Semaphores}
 use Rattle.semaphores.specs.Queues.{levelled}
 use Rattle.semaphores.specs.Semaphores.{woken_from}

@@ -1,12 +1,10 @@
 -- Document 01, "Semaphores", and document 02, §3: REQSEMA and RELSEMA on the whole table.
-use Rattle.std.specs.Prelude.{Option, Some, None, Result, Ok, Err, List, [], ◌∷◌, map, ℕ, min, eqb, set, take}
+use Rattle.std.specs.Prelude.{Option, Some, None, Result, Ok, Err, List, [], ◌∷◌, map, ℕ, eqb, set}
 use Rattle.common.specs.Choice.{pick}
 use Rattle.common.specs.Filled.{items_of}
 use Rattle.common.specs.Fold.{fold_of}
-use Rattle.inputs.specs.InputSet.{empty_of}
 use Rattle.process.specs.declared.Process.{Process}
 use Rattle.process.specs.declared.states.Cause.TheVariants.{WaitForSemaphore, Handover}
-use Rattle.process.specs.Messages.{zeros}
 use Rattle.process.specs.Process.{moved_of}
 use Rattle.semaphores.specs.declared.Unusable.{Unusable}
 use Rattle.semaphores.specs.declared.Requested.{Requested}
@@ -20,12 +18,13 @@ use Rattle.table.specs.declared.answers.Answer.{Answer}
 use Rattle.table.specs.declared.answers.Answer.TheVariants.{ParameterError, NoSemaphoreNumber, Suspended}
 use Rattle.table.specs.declared.configs.Config.{Config}
 use Rattle.table.specs.declared.wakes.Wake.{Wake}
-use Rattle.table.specs.declared.wakes.Wakes.{Wakes}
 use Rattle.table.specs.declared.wakes.Woken.TheVariants.{ByHandover}
 use Rattle.table.specs.declared.Table.{Table}
-use Rattle.table.specs.Wakes.{wake_push_of}
+use Rattle.table.specs.Wakes.{Wakes, wake_push_of}
 use Rattle.table.specs.Words.{minus_one}
-use Rattle.calls.specs.Effects.{Carried, nothing, shown_by, Effect, refuse, refuse_telling, done, suspended, waking}
+use Rattle.calls.specs.declared.Decided.{Decided}
+use Rattle.calls.specs.Decisions.{decided, decided_by}
+use Rattle.calls.specs.Effects.{Carried, nothing, Effect, refuse, refuse_telling, done, suspended, waking}
 use Rattle.calls.specs.Effects as Effects
 use Rattle.calls.specs.Levels.{process_at, with_processes, with_semaphores, moving}
 use Rattle.calls.specs.Verdicts.{Checked, by_caller, called}
@@ -82,44 +81,52 @@ release_of t caller number = called t caller [] (pick (eqb number minus_one) (re
 
 -- ---- how the code comes to that: what a call does is decided on the parts that it needs
 
-abbrev pub asking : Answer → Process → Semaphores → AfterRequest
-asking answer p s = record { answer = answer; process = p; semaphores = s }
+abbrev pub requesting : Process → Semaphores → AfterRequest
+requesting p s = record { process = p; semaphores = s }
 
-abbrev pub asked_by : Result Requested Unusable → Process → Semaphores → Semaphores → AfterRequest
+abbrev pub asking : Answer → Process → Semaphores → Decided AfterRequest
+asking answer p s = decided answer nothing (requesting p s)
+
+abbrev pub asked_by : Result Requested Unusable → Process → Semaphores → Semaphores → Decided AfterRequest
 asked_by (Err why) p s then = asking ParameterError p s
 asked_by (Ok Held) p s then = asking Answer.Ok p then
 asked_by (Ok Waits) p s then = asking Suspended (moved_of p WaitForSemaphore) then
 
-unfoldable pub requested_for : Process → Semaphores → ℕ → ℕ → AfterRequest
+unfoldable pub requested_for : Process → Semaphores → ℕ → ℕ → Decided AfterRequest
 requested_for p s caller number = asked_by (requested_in (requests_of s caller number)) p s (after_request s (requests_of s caller number))
 
-abbrev pub asked_as : Checked → Process → Semaphores → AfterRequest → AfterRequest
-asked_as (Ok tt) p s asked = asked
-asked_as (Err answer) p s asked = asking answer p s
+abbrev pub asked_as : Checked → Process → Semaphores → Decided AfterRequest → Decided AfterRequest
+asked_as v p s asked = decided_by v (requesting p s) asked
 
-unfoldable pub asked_of : Config → Process → Semaphores → ℕ → ℕ → AfterRequest
+unfoldable pub asked_of : Config → Process → Semaphores → ℕ → ℕ → Decided AfterRequest
 asked_of c p s caller number = asked_as (by_caller c p caller) p s (requested_for p s caller number)
 
-abbrev pub giving : Answer → Carried → Levels → Semaphores → AfterRelease
-giving answer carried woken s = record { answer = answer; shown = shown_by carried; woken = woken; semaphores = s }
+abbrev pub releasing : Levels → Semaphores → AfterRelease
+releasing woken s = record { woken = woken; semaphores = s }
 
-abbrev pub given_by : Result (Option ℕ) NotReleased → Semaphores → Semaphores → AfterRelease
+-- none was handed over
+abbrev pub to_nobody : Semaphores → AfterRelease
+to_nobody s = releasing none_of s
+
+abbrev pub giving : Answer → Carried → Levels → Semaphores → Decided AfterRelease
+giving answer carried woken s = decided answer carried (releasing woken s)
+
+abbrev pub given_by : Result (Option ℕ) NotReleased → Semaphores → Semaphores → Decided AfterRelease
 given_by (Err NotReleased.Unusable) s then = giving NoSemaphoreNumber nothing none_of s
 given_by (Err (NotHolder level)) s then = giving Answer.NotHolder (Effects.number level) none_of s
 given_by (Ok None) s then = giving Answer.Ok nothing none_of then
 given_by (Ok (Some level)) s then = giving Answer.Ok nothing (with_of none_of level) then
 
-unfoldable pub released_for : Semaphores → ℕ → ℕ → AfterRelease
+unfoldable pub released_for : Semaphores → ℕ → ℕ → Decided AfterRelease
 released_for s caller number =
     pick (eqb number minus_one)
     (giving Answer.Ok nothing (release_all_of s caller).woken (release_all_of s caller).semaphores)
     (given_by (released_in (releases_of s caller number)) s (after_release s (releases_of s caller number)))
 
-abbrev pub given_as : Checked → Semaphores → AfterRelease → AfterRelease
-given_as (Ok tt) s given = given
-given_as (Err answer) s given = giving answer nothing none_of s
+abbrev pub given_as : Checked → Semaphores → Decided AfterRelease → Decided AfterRelease
+given_as v s given = decided_by v (to_nobody s) given
 
-unfoldable pub given_of : Config → Process → Semaphores → ℕ → ℕ → AfterRelease
+unfoldable pub given_of : Config → Process → Semaphores → ℕ → ℕ → Decided AfterRelease
 given_of c p s caller number = given_as (by_caller c p caller) s (released_for s caller number)
 
 -- the levels that an array of levels has

@@ -17,7 +17,7 @@ use Rattle.inputs.specs.InputSet.{bit_of, word_of, has_of, set_of, empty_of, sin
 use Rattle.inputs.proofs.Bits.{Bitwise, same_bit, by_bits, word_of_bits, word_small, bit_of_word}
 
 -- what holds of each of the four words holds of all
-by_four : (P : ℕ → Type 0) → P 0 → P 1 → P 2 → P 3 → (i : ℕ) → i < 4 → P i
+pub by_four : (P : ℕ → Type 0) → P 0 → P 1 → P 2 → P 3 → (i : ℕ) → i < 4 → P i
 by_four P p q r s zero h = p
 by_four P p q r s (suc zero) h = q
 by_four P p q r s (suc (suc zero)) h = r
@@ -49,6 +49,15 @@ set_words : (test : ℕ → Bool) → FourWords (set_of test)
 unfolding set_of
 set_words test = record { four = refl; small = λ i h. record { fits = rw (word_at test i h) (word_small 64 (λ k. test (64 * i + k))) } }
 
+-- the set of a test is known by its words
+pub set_by_words : (set : InputSet) (test : ℕ → Bool) → length set.words ≡ 4
+    → ((i : ℕ) → i < 4 → get_or set.words i 0 ≡ word_of 64 (λ k. test (64 * i + k))) → set ≡ set_of test
+unfolding set_of
+set_by_words set test four made =
+    ap (λ ws. record { words = ws })
+    (ext_get_or 0 set.words (set_of test).words four
+    (λ i h. let within : i < 4 = omega (arith, four) in made i within ∙ sym (word_at test i within)))
+
 -- ---- a set is known by its inputs
 
 -- bit k of word i is input 64 * i + k
@@ -65,11 +74,7 @@ module _ (set : InputSet) (test : ℕ → Bool) (words : FourWords set) (same : 
 
   -- and is the set of the test
   pub set_known : set ≡ set_of test
-  unfolding set_of
-  set_known =
-      ap (λ ws. record { words = ws })
-      (ext_get_or 0 set.words (set_of test).words words.four
-      (λ i h. let within : i < 4 = omega (arith, words.four) in word_known i within ∙ sym (word_at test i within)))
+  set_known = set_by_words set test words.four word_known
 
 -- tests that agree on the inputs make the same set
 pub set_same : (f g : ℕ → Bool) → ((n : ℕ) → n < 256 → f n ≡ g n) → set_of f ≡ set_of g

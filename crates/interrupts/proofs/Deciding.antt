@@ -21,7 +21,6 @@ use Rattle.table.specs.declared.configs.Privileged.{Privileged}
 use Rattle.table.specs.declared.Outcome.{Outcome}
 use Rattle.table.specs.declared.Table.{Table}
 use Rattle.table.specs.Configuration.{privilege_of}
-use Rattle.table.specs.Wakes.{no_wakes_of}
 use Rattle.calls.specs.Decisions.{told_of, decided_at}
 use Rattle.calls.specs.Effects.{outcome_of}
 use Rattle.calls.specs.Levels.{process_at, process_of, with_process}
@@ -37,7 +36,7 @@ use Rattle.interrupts.specs.Interrupts.{came_of, awaiting_of, awaiting_by, await
 module _ (t : Table) (caller : ℕ) where
   -- of a process that may call, whether it owns inputs or not
   awaits_told : (owned : Option Privileged) → decided_at t caller (awaited_by owned (process_of t caller) t.mask t.latch) ≡ outcome_of (awaiting_by owned t caller)
-  unfolding told_of outcome_of no_wakes_of process_at awaiting_for awaiting_of
+  unfolding told_of outcome_of process_at awaiting_for awaiting_of
   awaits_told (Some place) =
       by_test (eqb (count_of (came_of t place)) 0)
       (λ none. rw none)

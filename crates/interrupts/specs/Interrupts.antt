@@ -124,23 +124,19 @@ enable_verdict c p caller input =
     ∷ check (owns_input c caller input) CommandPrivileged
     ∷ [])
 
--- 0, with another mask and another latch
-abbrev pub left_in : Table → InputSet × InputSet → Effect
-left_in t left = done (with_latch (with_mask t left.0) left.1)
-
 -- AWAITINTERRUPT changes the caller's record alone
 
-unfoldable pub awaiting_for : Process → InputSet → InputSet → Privileged → Decided
+unfoldable pub awaiting_for : Process → InputSet → InputSet → Privileged → Decided Process
 awaiting_for p mask latch place =
     pick (eqb (count_of (came_with mask latch place)) 0)
     (decided Suspended nothing (moved_of p WaitForEvent))
     (decided Ok (inputs (came_with mask latch place)) p)
 
-abbrev pub awaited_by : Option Privileged → Process → InputSet → InputSet → Decided
+abbrev pub awaited_by : Option Privileged → Process → InputSet → InputSet → Decided Process
 awaited_by (Some place) p mask latch = awaiting_for p mask latch place
 awaited_by None p mask latch = decided CommandPrivileged nothing p
 
-unfoldable pub awaited_of : Config → Process → InputSet → InputSet → ℕ → Decided
+unfoldable pub awaited_of : Config → Process → InputSet → InputSet → ℕ → Decided Process
 awaited_of c p mask latch caller = decided_by (by_caller c p caller) p (awaited_by (privilege_of c caller) p mask latch)
 
 -- an event changes the record of the input's owner, besides the latch: where that is a level above 11, the code looks at another's record, and nobody wakes

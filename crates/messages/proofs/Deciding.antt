@@ -14,7 +14,6 @@ use Rattle.process.specs.Process.{moved_of}
 use Rattle.process.specs.States.{is_of}
 use Rattle.table.specs.declared.answers.Answer.TheVariants.{NotReady, BufferEmpty, Suspended}
 use Rattle.table.specs.declared.Table.{Table}
-use Rattle.table.specs.Wakes.{no_wakes_of}
 use Rattle.calls.specs.declared.Decided.{Decided}
 use Rattle.calls.specs.Decisions.{decided, told_of, decided_at}
 use Rattle.calls.specs.Effects.{nothing, suspended, outcome_of}
@@ -25,17 +24,17 @@ use Rattle.messages.specs.Receiving.{taking_of, receive_of, await_message_of, to
 
 -- the oldest message is handed over
 took_told : (t : Table) (level : ℕ) → decided_at t level (took_of (process_of t level)) ≡ outcome_of (taking_of t level)
-unfolding told_of outcome_of taking_of no_wakes_of
+unfolding told_of outcome_of taking_of
 took_told t level = refl
 
 -- it waits for one
 waits_told : (t : Table) (level : ℕ) → decided_at t level (decided Suspended nothing (moved_of (process_of t level) WaitForMessage)) ≡ outcome_of (suspended (moving t level WaitForMessage))
-unfolding told_of outcome_of no_wakes_of
+unfolding told_of outcome_of
 waits_told t level = refl
 
 -- what AWAITMESSAGE comes to for a process that may call
-abbrev awaits : Process → Decided
-awaits p = pick (eqb p.buffer.count 0) (decided Suspended nothing (moved_of p WaitForMessage)) (took_of p)
+abbrev awaits : Process → Decided Process
+awaits p = pick (eqb p.buffer.list.count 0) (decided Suspended nothing (moved_of p WaitForMessage)) (took_of p)
 
 module _ (t : Table) (caller : ℕ) (other : Process) (whole : length t.processes ≡ 12) where
   -- the record that the code looks at: the caller's, or one that makes no difference
@@ -46,13 +45,13 @@ module _ (t : Table) (caller : ℕ) (other : Process) (whole : length t.processe
   unfolding received_of receive_of
   received_all =
       decided_call t caller other whole
-      (λ p. check (is_of p.state Ready) NotReady ∷ check (not (eqb p.buffer.count 0)) BufferEmpty ∷ [])
+      (λ p. check (is_of p.state Ready) NotReady ∷ check (not (eqb p.buffer.list.count 0)) BufferEmpty ∷ [])
       took_of (taking_of t caller) (took_told t caller)
 
   awaits_told : decided_at t caller (awaits (process_of t caller))
-      ≡ outcome_of (pick (eqb (process_of t caller).buffer.count 0) (suspended (moving t caller WaitForMessage)) (taking_of t caller))
+      ≡ outcome_of (pick (eqb (process_of t caller).buffer.list.count 0) (suspended (moving t caller WaitForMessage)) (taking_of t caller))
   awaits_told =
-      by_test (eqb (process_of t caller).buffer.count 0)
+      by_test (eqb (process_of t caller).buffer.list.count 0)
       (λ none. rw none (waits_told t caller))
       (λ some. rw some (took_told t caller))
 

@@ -7,6 +7,7 @@ use native.Mathlib.Omega.{arith}
 use lib.Dec.{eqb, leb-zero}
 use lib.ListN.{length, length-set}
 use borrow.Author.Tests.{leb-true, le-leb}
+use Rattle.common.specs.Filled.{filled_of}
 use Rattle.common.specs.Fold.{fold_of}
 use Rattle.common.proofs.Cases.{by_test, by_pick, either_true}
 use Rattle.process.specs.declared.buffers.Buffer.{Buffer}
@@ -18,7 +19,7 @@ use Rattle.process.specs.declared.Target.{Target}
 use Rattle.process.specs.declared.states.Cause.TheVariants.{WaitForMessage}
 use Rattle.process.specs.declared.states.State.{State}
 use Rattle.process.specs.declared.states.State.TheVariants.{Ready, WaitingForMessage, WaitingForSemaphore}
-use Rattle.process.specs.Messages.{empty_of, rest_of}
+use Rattle.process.specs.Messages.{rest_of}
 use Rattle.process.specs.Process.{moved_of, cleared_of, taken_of}
 use Rattle.process.specs.States.{is_of, next_of}
 use Rattle.table.specs.declared.answers.Answer.TheVariants.{BufferEmpty}
@@ -63,9 +64,9 @@ send_keeps t caller receiver condition m steady =
 -- ---- RECEIVE and AWAITMESSAGE
 
 -- without its oldest message a buffer keeps no more than before
-rest_few : (b : Buffer) → (rest_of b).count ≤ b.count
+rest_few : (b : Buffer) → (rest_of b).list.count ≤ b.list.count
 unfolding rest_of
-rest_few b = by_test (eqb b.count 0) (λ e. rw e (omega arith)) (λ e. rw e (omega arith))
+rest_few b = by_test (eqb b.list.count 0) (λ e. rw e (omega arith)) (λ e. rw e (omega arith))
 
 module _ (places : ℕ) (p : Process) (ready : is_of p.state Ready ≡ true) where
   -- who is READY may take its oldest message
@@ -74,14 +75,14 @@ module _ (places : ℕ) (p : Process) (ready : is_of p.state Ready ≡ true) whe
   tame_taken = record {
     priority = λ within. within;
     kept = λ within none. (
-      le-leb (rest_of p.buffer).count places (omega (arith, leb-true p.buffer.count places within, rest_few p.buffer)),
-      ap (λ (s : State). not (is_of s WaitingForMessage) || eqb (rest_of p.buffer).count 0) (state_known p.state Ready ready),
+      le-leb (rest_of p.buffer).list.count places (omega (arith, leb-true p.buffer.list.count places within, rest_few p.buffer)),
+      ap (λ (s : State). not (is_of s WaitingForMessage) || eqb (rest_of p.buffer).list.count 0) (state_known p.state Ready ready),
     );
     queued = refl;
   }
 
   -- and may begin to wait for a message where none is kept
-  tame_awaiting : eqb p.buffer.count 0 ≡ true → Tame places p (moved_of p WaitForMessage)
+  tame_awaiting : eqb p.buffer.list.count 0 ≡ true → Tame places p (moved_of p WaitForMessage)
   unfolding next_of
   tame_awaiting nothing =
       subst (Tame places p) (sym (moved_as p Ready WaitingForMessage WaitForMessage ready refl))
@@ -101,7 +102,7 @@ module _ (t : Table) (caller : ℕ) (steady : Steady t) where
   pub receive_keeps : Keeps (receive_of t caller)
   unfolding receive_of
   receive_keeps =
-      let some = check (not (eqb (process_of t caller).buffer.count 0)) BufferEmpty in
+      let some = check (not (eqb (process_of t caller).buffer.list.count 0)) BufferEmpty in
       keeps_obeyed _ t _ steady (λ passed. taking_keeps (passed_caller t.config (process_of t caller) caller (some ∷ []) passed).1)
 
   -- AWAITMESSAGE keeps it steady: its caller waits only where no message is kept
@@ -111,7 +112,7 @@ module _ (t : Table) (caller : ℕ) (steady : Steady t) where
       keeps_obeyed _ t _ steady
       (λ passed.
       let ready = (passed_caller t.config (process_of t caller) caller [] passed).1 in
-      by_test (eqb (process_of t caller).buffer.count 0)
+      by_test (eqb (process_of t caller).buffer.list.count 0)
       (λ nothing. rw nothing (steady_process t caller _ steady (tame_awaiting t.config.places (process_of t caller) ready nothing)))
       (λ some. rw some (taking_keeps ready)))
 
@@ -119,7 +120,7 @@ module _ (t : Table) (caller : ℕ) (steady : Steady t) where
 
 -- a buffer may be emptied
 tame_cleared : (places : ℕ) (p : Process) → Tame places p (cleared_of p)
-unfolding empty_of
+unfolding filled_of
 tame_cleared places p = record {
   priority = λ within. within;
   kept = λ within none. (leb-zero places, either_true (not (is_of p.state WaitingForMessage)) true refl);

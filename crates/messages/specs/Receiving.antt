@@ -15,7 +15,7 @@ use Rattle.calls.specs.declared.Decided.{Decided}
 use Rattle.calls.specs.Decisions.{decided, decided_by}
 use Rattle.calls.specs.Effects.{Effect, nothing, message, done, suspended, carrying}
 use Rattle.calls.specs.Levels.{process_of, with_process, with_processes, moving}
-use Rattle.calls.specs.Outcomes.{told_as}
+use Rattle.table.specs.Answers.{told_as}
 use Rattle.calls.specs.Verdicts.{Checked, Check, check, after, by_caller, called}
 use Rattle.messages.specs.Receivers.{receivers_of, cleared_at}
 
@@ -28,7 +28,7 @@ taking_of t caller = taken t caller (taken_of (process_of t caller))
 
 -- of RECEIVE, on the caller's record: 4
 abbrev pub receive_checks : Process → List Check
-receive_checks p = check (not (eqb p.buffer.count 0)) BufferEmpty ∷ []
+receive_checks p = check (not (eqb p.buffer.list.count 0)) BufferEmpty ∷ []
 
 -- "RECEIVE: oldest message, or 4." "Number 4 clears no mark."
 unfoldable pub receive_of : Table → ℕ → Effect
@@ -38,7 +38,7 @@ receive_of t caller = called t caller (receive_checks (process_of t caller)) (ta
 unfoldable pub await_message_of : Table → ℕ → Effect
 await_message_of t caller =
     called t caller []
-    (pick (eqb (process_of t caller).buffer.count 0) (suspended (moving t caller WaitForMessage)) (taking_of t caller))
+    (pick (eqb (process_of t caller).buffer.list.count 0) (suspended (moving t caller WaitForMessage)) (taking_of t caller))
 
 -- whoever is named, one after the other
 unfoldable pub cleared_for : Config → Target → List Process → List Process
@@ -60,13 +60,13 @@ named_checked c p caller target = after (by_caller c p caller) (check (is_known 
 
 -- RECEIVE and AWAITMESSAGE change the caller's record alone: what they come to is decided on it
 
-abbrev pub took_of : Process → Decided
+abbrev pub took_of : Process → Decided Process
 took_of p = decided (told_as (taken_of p).told) (message (taken_of p).message) (taken_of p).process
 
-unfoldable pub received_of : Config → Process → ℕ → Decided
+unfoldable pub received_of : Config → Process → ℕ → Decided Process
 received_of c p caller = decided_by (after (by_caller c p caller) (receive_checks p)) p (took_of p)
 
-unfoldable pub awaited_of : Config → Process → ℕ → Decided
+unfoldable pub awaited_of : Config → Process → ℕ → Decided Process
 awaited_of c p caller =
     decided_by (by_caller c p caller) p
-    (pick (eqb p.buffer.count 0) (decided Suspended nothing (moved_of p WaitForMessage)) (took_of p))
+    (pick (eqb p.buffer.list.count 0) (decided Suspended nothing (moved_of p WaitForMessage)) (took_of p))

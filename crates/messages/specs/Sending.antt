@@ -52,7 +52,7 @@ send_of t caller receiver condition m =
     ∷ [])
     (sent_of t (receiver_of t.config receiver) condition m)
 
--- ---- how the code comes to that for one receiver
+-- ---- one receiver
 
 -- by what became of its message
 abbrev pub sent_answer : Condition → Fate → Answer

@@ -1,40 +1,46 @@
 // The calls of messages: SEND, RECEIVE, AWAITMESSAGE and CLEARMESSAGE, for a table that is known to be sound.
 #![tactic(auto)]
 
-ghost use Rattle.std.specs.Prelude.{◌≡◌, ◌<◌};
-ghost use Rattle.calls.specs.Effects.{outcome_of};
+ghost use Rattle.std.specs.Prelude.{◌≡◌};
+ghost use Rattle.calls.specs.Effects.{outcome_of, Has};
 ghost use Rattle.calls.specs.Levels.{process_of};
 ghost use Rattle.calls.specs.Verdicts.{after, by_caller};
-ghost use Rattle.posting.specs.Posting.{posting_of};
-ghost use Rattle.process.specs.declared.Target.TheVariants.{All, Level};
-ghost use Rattle.messages.specs.Sending.{send_posted, broadcast_posted, sent_of, send_of, sent_answer};
+ghost use Rattle.posting.specs.Posting.{delivered_in, posting_of};
+ghost use Rattle.process.specs.declared.Target.TheVariants.{All};
+ghost use Rattle.messages.specs.Sending.{send_posted, broadcast_posted, sent_of, send_of};
 ghost use Rattle.messages.specs.Receiving.{named_checked, receive_checks, took_of, received_of, receive_of, awaited_of, await_message_of, cleared_for, clear_message_of};
 
-use calls::{Decided, check};
+use calls::{Caller, Decided, check};
 use inputs::InputSet;
-use posting::{Origin, Posting, delivered};
+use posting::{Origin, Posting};
 use process::buffers::Message;
 use process::states::Cause;
-use process::{Condition, Delivery, Fate, Process, Taken, Target};
+use process::{Condition, Process, Taken, Target};
 use table::answers::Answer;
 use table::configs::Config;
-use table::wakes::Wakes;
-use table::{Outcome, Shown, Table};
+use table::{Outcome, Said, Shown, Table, wakes};
 
-// A message for every configured level, in rising order, the sender's own included. Each is served in place.
+// A message for every configured level, in rising order, the sender's own included.
 fn broadcast(
     config: Config,
-    processes: [Process; 12],
+    processes: &mut [Process; 12],
     condition: Condition,
     message: Message,
 ) -> Posting
-    ensures { result ≡ posting_of (broadcast_posted config condition message processes) }
+    ensures { delivered_in processes.new result ≡ posting_of (broadcast_posted config condition message processes.old) }
 {
     let places = config.places as usize;
-    let mut posting = Posting::begin(processes);
+    let mut posting = Posting::begin();
     for receiver in 0..12 {
         if config.has_level(receiver as u16) {
-            posting.post(Origin::Sent, places, receiver, condition, message);
+            posting.post(
+                processes,
+                Origin::Sent,
+                places,
+                receiver,
+                condition,
+                message,
+            );
         }
     }
     posting
@@ -43,83 +49,43 @@ fn broadcast(
 // A message for whoever is named.
 fn posted(
     config: Config,
-    processes: [Process; 12],
+    processes: &mut [Process; 12],
     target: Target,
     condition: Condition,
     message: Message,
 ) -> Posting
-    ensures { result ≡ posting_of (send_posted config target condition message processes) }
+    ensures { delivered_in processes.new result ≡ posting_of (send_posted config target condition message processes.old) }
 {
     match target {
         Target::All => broadcast(config, processes, condition, message),
         Target::Level(level) => {
             let places = config.places as usize;
-            let mut posting = Posting::begin(processes);
-            posting.post(Origin::Sent, places, level, condition, message);
+            let mut posting = Posting::begin();
+            posting.post(processes, Origin::Sent, places, level, condition, message);
             posting
         }
-        Target::Unknown => Posting::begin(processes),
+        Target::Unknown => Posting::begin(),
     }
 }
 
-// SEND to somebody there is: with WAITING refused where nobody waited, with ALWAYS where a full buffer lost the message.
-fn sent(table: Table, target: Target, condition: Condition, message: Message) -> Outcome
-    ensures { result ≡ outcome_of (sent_of table target condition message) }
+// SEND to somebody there is: with WAITING refused where nobody waited (which changes nothing), with ALWAYS where a full buffer lost the message.
+fn sent(table: &mut Table, target: Target, condition: Condition, message: Message) -> Said
+    ensures { Has (sent_of table.old target condition message) result table.new }
 {
-    let Posting {
-        processes,
-        wakes,
-        full,
-    } = posted(table.config, table.processes, target, condition, message);
-    let served = Table { processes, ..table };
+    let config = table.config;
+    let Posting { wakes, full } = posted(config, &mut table.processes, target, condition, message);
     match condition {
-        Condition::Waiting if wakes.count == 0 => table.refused(Answer::ReceiverNotReady),
-        Condition::Waiting => calls::answered(served, Answer::Ok, wakes),
-        Condition::Always if full => calls::answered(served, Answer::ReceiverBufferOverflow, wakes),
-        Condition::Always => calls::answered(served, Answer::Ok, wakes),
-    }
-}
-
-// The answer of SEND to one receiver.
-fn sent_answer(condition: Condition, fate: Fate) -> Answer
-    ensures { result ≡ sent_answer condition fate }
-{
-    match condition {
-        Condition::Waiting if posting::is_handed(fate) => Answer::Ok,
-        Condition::Waiting => Answer::ReceiverNotReady,
-        Condition::Always if posting::is_full(fate) => Answer::ReceiverBufferOverflow,
-        Condition::Always => Answer::Ok,
-    }
-}
-
-// SEND to one of the twelve levels, in place. Where nobody waited its record is put back as it was. Not through `Posting`, as a broadcast is: that would
-// take all twelve records out and put them back.
-fn sent_to(mut table: Table, level: u8, condition: Condition, message: Message) -> Outcome
-    requires { level < 12 }
-    ensures { result ≡ outcome_of (sent_of table (Level level) condition message) }
-{
-    let places = table.config.places as usize;
-    let process = table.processes[level as usize];
-    let Delivery {
-        fate,
-        process: served,
-    } = delivered(Origin::Sent, places, condition, message, process);
-    table.processes[level as usize] = served;
-    let wakes = posting::pushed(Wakes::none(), level, fate, message);
-    calls::answered(table, sent_answer(condition, fate), wakes)
-}
-
-// SEND whose checks passed: one of the twelve levels is served in place.
-fn served(table: Table, target: Target, condition: Condition, message: Message) -> Outcome
-    ensures { result ≡ outcome_of (sent_of table target condition message) }
-{
-    match target {
-        Target::Level(level) if level < 12 => sent_to(table, level, condition, message),
-        _ => sent(table, target, condition, message),
+        Condition::Waiting if wakes.count == 0 => {
+            calls::said(Answer::ReceiverNotReady, wakes::none())
+        }
+        Condition::Waiting => calls::said(Answer::Ok, wakes),
+        Condition::Always if full => calls::said(Answer::ReceiverBufferOverflow, wakes),
+        Condition::Always => calls::said(Answer::Ok, wakes),
     }
 }
 
 // The checks of a call that names receivers: the caller may call, and there is such a receiver.
+#[tactic(auto, unfolding(calls::specs::Verdicts::also_of))]
 fn named_checked(table: &Table, caller: u8, target: Target) -> Result<(), Answer>
     ensures { result ≡ named_checked table.now.config (process_of table.now caller) caller target }
 {
@@ -141,12 +107,12 @@ pub fn send(
     calls::obeyed(
         table,
         checked,
-        |table| served(table, target, condition, message),
+        |table| sent(table, target, condition, message),
     )
 }
 
 // The oldest message of a process is handed to it.
-fn took(process: Process) -> Decided
+fn took(process: Process) -> Decided<Process>
     ensures { result ≡ took_of process }
 {
     let Taken {
@@ -155,60 +121,69 @@ fn took(process: Process) -> Decided
         process,
     } = process.taken();
     Decided {
-        answer: calls::told_as(told),
+        answer: told.into(),
         shown: Shown::Message(message),
-        process,
+        part: process,
     }
 }
 
 // The checks of RECEIVE, on the record of the caller.
-fn receive_checked(config: Config, process: Process, caller: u8) -> Result<(), Answer>
-    ensures { result ≡ after (by_caller config process caller) (receive_checks process) }
+#[tactic(auto, unfolding(calls::specs::Verdicts::also_of))]
+fn receive_checked(caller: &Caller) -> Result<(), Answer>
+    ensures { result ≡ after (by_caller caller.now.config caller.now.process caller.now.level) (receive_checks caller.now.process) }
 {
-    calls::caller_checked(config, process, caller)?;
-    check(process.buffer.count != 0, Answer::BufferEmpty)
+    caller.checked()?;
+    check(caller.process.buffer.list.count != 0, Answer::BufferEmpty)
 }
 
-// RECEIVE of a level with this record.
-pub fn received(config: Config, process: Process, caller: u8) -> Decided
-    ensures { result ≡ received_of config process caller }
+// RECEIVE, decided on the caller's record.
+pub fn received(caller: Caller) -> Decided<Process>
+    ensures { result ≡ received_of caller.config caller.process caller.level }
 {
-    match receive_checked(config, process, caller) {
-        Err(answer) => Decided::alone(answer, process),
-        Ok(()) => took(process),
-    }
+    calls::ruled(
+        receive_checked(&caller),
+        &caller.process,
+        || took(caller.process),
+    )
 }
 
-pub fn receive(table: Table, caller: u8) -> Outcome
-    ensures { result ≡ outcome_of (receive_of table caller) }
+pub fn receive(table: Table, level: u8) -> Outcome
+    ensures { result ≡ outcome_of (receive_of table level) }
 {
-    calls::on_record(table, caller as u16, |config, process| {
-        received(config, process, caller)
+    calls::on_record(table, level as u16, |config, process| {
+        received(Caller {
+            config,
+            process,
+            level,
+        })
     })
 }
 
-// AWAITMESSAGE of a level with this record.
-pub fn awaited(config: Config, process: Process, caller: u8) -> Decided
-    ensures { result ≡ awaited_of config process caller }
+// AWAITMESSAGE, decided on the caller's record.
+pub fn awaited(caller: Caller) -> Decided<Process>
+    ensures { result ≡ awaited_of caller.config caller.process caller.level }
 {
-    match calls::caller_checked(config, process, caller) {
-        Err(answer) => Decided::alone(answer, process),
-        Ok(()) => {
-            if process.buffer.count == 0 {
-                let process = process.moved(Cause::WaitForMessage);
-                Decided::alone(Answer::Suspended, process)
-            } else {
-                took(process)
-            }
+    calls::ruled(caller.checked(), &caller.process, || {
+        if caller.process.buffer.list.count == 0 {
+            Decided::alone(
+                Answer::Suspended,
+                caller.process.moved(Cause::WaitForMessage),
+            )
+        } else {
+            took(caller.process)
         }
-    }
+    })
 }
 
-pub fn await_message(table: Table, caller: u8) -> Outcome
-    ensures { result ≡ outcome_of (await_message_of table caller) }
+pub fn await_message(table: Table, level: u8) -> Outcome
+    ensures { result ≡ outcome_of (await_message_of table level) }
 {
-    calls::on_record(table, caller as u16, |config, process| {
-        awaited(config, process, caller)
+    calls::on_record(table, level as u16, |config, process| {
+        awaited(Caller {
+            config,
+            process,
+            level,
+        })
     })
 }
 
@@ -231,7 +206,7 @@ fn cleared(config: Config, processes: [Process; 12], target: Target) -> [Process
     match target {
         Target::All => all_cleared(config, processes),
         Target::Level(level) => {
-            let process = calls::process_at(processes, level as u16).cleared();
+            let process = calls::process_at(&processes, level as u16).cleared();
             calls::with_process(processes, level as u16, process)
         }
         Target::Unknown => processes,
@@ -244,7 +219,7 @@ pub fn clear_message(table: Table, caller: u8, receiver: u16) -> Outcome
     let target = table.config.receiver(receiver);
     let checked = named_checked(&table, caller, target);
     calls::obeyed(table, checked, |table| {
-        let processes = cleared(table.config, table.processes, target);
-        calls::answered(Table { processes, ..table }, Answer::Ok, Wakes::none())
+        table.processes = cleared(table.config, table.processes, target);
+        calls::done()
     })
 }

@@ -30,7 +30,7 @@ module _ (level : ℕ) (o : Orders) where
   others_removed : (receiver : ℕ) → keep_of (from_other level) (standing_of (after_cancel o (removed_of (Level level) receiver o))) ≡ keep_of (from_other level) (standing_of o)
   unfolding removed_of
   others_removed receiver =
-      by_test (eqb o.count 0) (λ e. rw e)
+      by_test (eqb o.list.count 0) (λ e. rw e)
       (λ e. by_test (eqb (how_many_of All receiver o) 0) (λ f. rw (e, f))
       (λ f. by_test (eqb (how_many_of (Level level) receiver o) 0) (λ g. rw (e, f, g))
       (λ g. rw (e, f, g)

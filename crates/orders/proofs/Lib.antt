@@ -1,4 +1,3 @@
-pub mod Standing
 pub mod Walks
 pub mod Tables
 pub mod Places

@@ -1,18 +1,18 @@
 -- The order at one place becomes another, or leaves. Assumes nothing.
-use mathlib.Core.Path.{◌≡◌, ◌∙◌, refl, ap, sym}
+use mathlib.Core.Path.{◌≡◌, ◌∙◌, refl, ap}
 use mathlib.Core.List.{List, [], ◌∷◌, ◌++◌}
 use Prim.Native.Nat.{ℕ, zero, suc, ◌+◌, ◌-◌, ◌<◌, ◌≤◌, min}
 use native.Mathlib.Omega.{arith}
 use native.Mathlib.Numerals.{add-one}
 use lib.ListN.{length, get_or, take, drop, set}
-use lib.Seq.{take-suc, take-suc-set, take-set-lt, drop-cons, drop-set-lt, length-take-le, get_or-take}
+use lib.Seq.{take-suc-set, take-set-lt, drop-cons, drop-set-lt, length-take-le, get_or-take}
+use Rattle.common.specs.Filled.{items_of, filled_of}
+use Rattle.common.proofs.Filling.{standing_short, standing_filled}
 use Rattle.common.proofs.Packing.{length_packed}
 use Rattle.orders.specs.declared.Order.{Order}
 use Rattle.orders.specs.declared.Orders.{Orders}
 use Rattle.orders.specs.Orders.{no_order, standing_of, orders_of}
 use Rattle.orders.specs.Advance.{without_at, without_place_of}
-use Rattle.orders.proofs.Standing.{standing_orders}
-use Rattle.orders.proofs.Tables.{standing_most}
 
 -- those before it stay where they are
 pub take_without : (place : ℕ) (l : List Order) → take place (without_at place l) ≡ take place l
@@ -49,72 +49,43 @@ without_none place [] beyond = refl
 without_none zero (x ∷ l) beyond = absurd (omega arith)
 without_none (suc place) (x ∷ l) beyond = ap (◌∷◌ x) (without_none place l (omega arith))
 
--- one order more, at that place or at another
-without_here : (place : ℕ) (l : List Order) (x : Order) → length l ≡ place → without_at place (l ++ (x ∷ [])) ≡ without_at place l
-unfolding without_at
-without_here zero [] x here = refl
-without_here (suc place) [] x here = absurd (omega arith)
-without_here zero (y ∷ l) x here = absurd (omega arith)
-without_here (suc place) (y ∷ l) x here = ap (◌∷◌ y) (without_here place l x (omega arith))
-
-without_there : (place : ℕ) (l : List Order) (x : Order) → (length l ≡ place → ⊥) → without_at place (l ++ (x ∷ [])) ≡ without_at place l ++ (x ∷ [])
-unfolding without_at
-without_there zero [] x there = absurd (there refl)
-without_there (suc place) [] x there = refl
-without_there zero (y ∷ l) x there = refl
-without_there (suc place) (y ∷ l) x there = ap (◌∷◌ y) (without_there place l x (λ here. there (ap suc here)))
-
--- one turn of the loop that leaves it out
-module _ (place : ℕ) (l : List Order) (at : ℕ) (d : Order) (before : at < length l) where
-  walked : take (at + 1) l ≡ take at l ++ (get_or l at d ∷ [])
-  walked = rw add-one (take-suc l at d before)
-
-  at_end : length (take at l) ≡ at
-  at_end = length-take-le at l (omega arith)
-
-  pub turn_here : at ≡ place → without_at place (take (at + 1) l) ≡ without_at place (take at l)
-  turn_here here = ap (without_at place) walked ∙ without_here place _ _ (at_end ∙ here)
-
-  pub turn_there : (at ≡ place → ⊥) → without_at place (take (at + 1) l) ≡ without_at place (take at l) ++ (get_or l at d ∷ [])
-  turn_there there = ap (without_at place) walked ∙ without_there place _ _ (λ here. there (sym at_end ∙ here))
-
 -- ---- in the order table
 
 -- the standing orders lose one
 pub standing_without_place : (place : ℕ) (o : Orders) → standing_of (without_place_of place o) ≡ without_at place (standing_of o)
 unfolding without_place_of
-standing_without_place place o = standing_orders _ (omega (arith, length_few place (standing_of o), standing_most o))
+standing_without_place place o = standing_filled 64 no_order _ (omega (arith, length_few place (standing_of o), standing_short 64 o.list))
 
 -- past the last place none leaves, and the free places are written anew
 pub without_beyond : (o : Orders) → without_place_of 64 o ≡ orders_of (standing_of o)
 unfolding without_place_of
-without_beyond o = ap orders_of (without_none 64 (standing_of o) (standing_most o))
+without_beyond o = ap orders_of (without_none 64 (standing_of o) (standing_short 64 o.list))
 
 -- the table keeps its places
-pub length_without_place : (place : ℕ) (o : Orders) → length (without_place_of place o).places ≡ 64
-unfolding without_place_of orders_of
+pub length_without_place : (place : ℕ) (o : Orders) → length (without_place_of place o).list.items ≡ 64
+unfolding without_place_of filled_of
 length_without_place place o = length_packed no_order 64 _
 
-module _ (o : Orders) (at : ℕ) (long : length o.places ≡ 64) (stands : at < min o.count 64) where
+module _ (o : Orders) (at : ℕ) (long : length o.list.items ≡ 64) (stands : at < min o.list.count 64) where
   -- as many stand as are counted
-  length_standing : length (standing_of o) ≡ min o.count 64
-  unfolding standing_of
-  length_standing = length-take-le (min o.count 64) o.places (omega arith)
+  length_standing : length (standing_of o) ≡ min o.list.count 64
+  unfolding items_of
+  length_standing = length-take-le (min o.list.count 64) o.list.items (omega arith)
 
   -- those before a place, the one there, and those behind it
-  pub standing_split : (d : Order) → drop at (standing_of o) ≡ get_or o.places at d ∷ drop (suc at) (standing_of o)
-  unfolding standing_of
+  pub standing_split : (d : Order) → drop at (standing_of o) ≡ get_or o.list.items at d ∷ drop (suc at) (standing_of o)
+  unfolding items_of
   standing_split d =
       drop-cons (standing_of o) at d (omega (arith, length_standing))
-      ∙ ap (λ (x : Order). x ∷ drop (suc at) (standing_of o)) (get_or-take (min o.count 64) o.places at d stands)
+      ∙ ap (λ (x : Order). x ∷ drop (suc at) (standing_of o)) (get_or-take (min o.list.count 64) o.list.items at d stands)
 
   -- the order there becomes another
   abbrev pub changed_to : Order → Orders
-  changed_to x = record { places = set o.places at x; count = o.count }
+  changed_to x = record { list = record { items = set o.list.items at x; count = o.list.count } }
 
   standing_changed : (x : Order) → standing_of (changed_to x) ≡ set (standing_of o) at x
-  unfolding standing_of
-  standing_changed x = take-set-lt (min o.count 64) o.places at x stands
+  unfolding items_of
+  standing_changed x = take-set-lt (min o.list.count 64) o.list.items at x stands
 
   pub changed_before : (x : Order) → take (at + 1) (standing_of (changed_to x)) ≡ take at (standing_of o) ++ (x ∷ [])
   changed_before x = rw (add-one, standing_changed x) (take-suc-set (standing_of o) at x (omega (arith, length_standing)))
@@ -129,6 +100,6 @@ module _ (o : Orders) (at : ℕ) (long : length o.places ≡ 64) (stands : at < 
   pub left_behind : drop at (standing_of (without_place_of at o)) ≡ drop (suc at) (standing_of o)
   left_behind = rw (standing_without_place at o) (drop_without at (standing_of o))
 
-  pub left_fewer : min (without_place_of at o).count 64 ≡ min o.count 64 - 1
-  unfolding without_place_of orders_of
+  pub left_fewer : min (without_place_of at o).list.count 64 ≡ min o.list.count 64 - 1
+  unfolding without_place_of filled_of
   left_fewer = omega (arith, length_without at (standing_of o) (omega (arith, length_standing)), length_standing)

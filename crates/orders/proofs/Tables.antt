@@ -1,34 +1,24 @@
 -- What the operations on the order table do to the list of orders that stand: they are the steps of the timer law. Assumes nothing.
 use mathlib.Core.Path.{◌≡◌, ◌∙◌, refl, ap, sym}
-use mathlib.Core.List.{List, [], ◌∷◌, ◌++◌}
-use Prim.Native.Nat.{ℕ, suc, ◌+◌, ◌<◌, ◌≤◌, min}
+use mathlib.Core.List.{List, [], ◌∷◌}
+use Prim.Native.Nat.{ℕ, ◌<◌, ◌≤◌, min}
 use native.Mathlib.Omega.{arith}
 use lib.Dec.{eqb}
-use lib.ListN.{length, take, set, length-append, length-take}
-use lib.Seq.{take-suc-set}
+use lib.ListN.{length, length-append}
 use borrow.Author.Tests.{eqb-true, eqb-false, lt-ltb, le-ltb, eq-eqb, ne_eqb}
 use Rattle.std.specs.Prelude.{Option, Some, None}
 use Rattle.common.specs.Keep.{keep_of}
 use Rattle.common.proofs.Cases.{by_test}
+use Rattle.common.proofs.Filling.{standing_short, standing_filled}
 use Rattle.common.proofs.Keep.{length_keep}
 use Rattle.day.specs.declared.TimeOfDay.{TimeOfDay}
 use Rattle.process.specs.declared.Target.{Target}
 use Rattle.orders.specs.declared.Order.{Order}
 use Rattle.orders.specs.declared.Orders.{Orders}
-use Rattle.orders.specs.Orders.{standing_of, orders_of, push_of, accept_of}
+use Rattle.orders.specs.Orders.{no_order, standing_of, orders_of, push_of, accept_of}
 use Rattle.orders.specs.Advance.{due_at, due_of, due_count_of, onward_of, left_of, lefts_of, advancing, advance_of}
 use Rattle.orders.specs.Cancel.{without_of}
 use Rattle.orders.specs.Timer.{stays_after}
-use Rattle.orders.proofs.Standing.{push_room, standing_orders}
-
--- no more stand than there are places
-pub standing_most : (o : Orders) → length (standing_of o) ≤ 64
-unfolding standing_of
-standing_most o = simp length-take (omega arith)
-
--- so in a walk that puts some of them into another table, a place is left for the order of a turn
-pub room : (o : Orders) (items : List Order) (count at : ℕ) → items ≡ standing_of o → count ≤ at → at < length items → count < 64
-room o items count at same few within = omega (arith, standing_most o, ap length same)
 
 length_left : (left : Option Order) → length (left_of left) ≤ 1
 length_left None = omega arith
@@ -67,7 +57,7 @@ module _ (now : TimeOfDay) (o : Orders) where
 -- where the free places are written anew, so they are after any moment
 pub advance_orders : (now : TimeOfDay) (l : List Order) → length l ≤ 64 → advance_of now (orders_of l) ≡ orders_of (advancing now l)
 advance_orders now l fits =
-    let stands = standing_orders l fits in
+    let stands = standing_filled 64 no_order l fits in
     by_test (eqb (due_count_of now (orders_of l)) 0)
     (λ none. let zero = eqb-true (due_count_of now (orders_of l)) 0 none in
     advance_none now (orders_of l) zero
@@ -81,29 +71,18 @@ standing_advance now o =
     (λ none. let zero = eqb-true (due_count_of now o) 0 none in
     ap standing_of (advance_none now o zero) ∙ sym (undue_same now (standing_of o) (sym (due_counted now o) ∙ zero)))
     (λ some. ap standing_of (advance_some now o (eqb-false (due_count_of now o) 0 some))
-    ∙ standing_orders _ (omega (arith, length_lefts (onward_of now) (standing_of o), standing_most o)))
+    ∙ standing_filled 64 no_order _ (omega (arith, length_lefts (onward_of now) (standing_of o), standing_short 64 o.list)))
 
 -- a cancel's step
 pub standing_without : (sender : Target) (receiver : ℕ) (o : Orders) → standing_of (without_of sender receiver o) ≡ keep_of (stays_after sender receiver) (standing_of o)
 unfolding without_of
-standing_without sender receiver o = standing_orders _ (omega (arith, length_keep (stays_after sender receiver) (standing_of o), standing_most o))
+standing_without sender receiver o = standing_filled 64 no_order _ (omega (arith, length_keep (stays_after sender receiver) (standing_of o), standing_short 64 o.list))
 
 module _ (o : Orders) (places : ℕ) (x : Order) where
-  pub accept_room : o.count < min places 64 → accept_of o places x ≡ Some (push_of o x)
+  pub accept_room : o.list.count < min places 64 → accept_of o places x ≡ Some (push_of o x)
   unfolding accept_of
-  accept_room room = rw (lt-ltb o.count (min places 64) room)
+  accept_room room = rw (lt-ltb o.list.count (min places 64) room)
 
-  pub accept_full : min places 64 ≤ o.count → accept_of o places x ≡ None
+  pub accept_full : min places 64 ≤ o.list.count → accept_of o places x ≡ None
   unfolding accept_of
-  accept_full full = rw (le-ltb o.count (min places 64) full)
-
-  -- an acceptance's step
-  pub standing_push : length o.places ≡ 64 → o.count < 64 → standing_of (push_of o x) ≡ standing_of o ++ (x ∷ [])
-  unfolding standing_of
-  standing_push long room =
-      let more : min (o.count + 1) 64 ≡ suc o.count = omega arith in
-      let all : min o.count 64 ≡ o.count = omega arith in
-      ap (λ (p : Orders). take (min p.count 64) p.places) (push_room o x room)
-      ∙ ap (λ (n : ℕ). take n (set o.places o.count x)) more
-      ∙ take-suc-set o.places o.count x (omega arith)
-      ∙ ap (λ (n : ℕ). take n o.places ++ (x ∷ [])) (sym all)
+  accept_full full = rw (le-ltb o.list.count (min places 64) full)

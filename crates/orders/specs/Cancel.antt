@@ -19,9 +19,9 @@ refused_number NoOrder = 7
 refused_number NotFound = 8
 refused_number NotTheirs = 6
 
--- and 0 OK
-abbrev pub cancelled_number : Result Orders NotCancelled → ℕ
-cancelled_number (Ok left) = 0
+-- and 0 OK, whatever comes with it
+abbrev pub cancelled_number : {A : Type 0} → Result A NotCancelled → ℕ
+cancelled_number (Ok done) = 0
 cancelled_number (Err why) = refused_number why
 
 -- the orders after a cancel: one that is refused leaves them as they stood
@@ -49,7 +49,7 @@ without_of sender receiver o = orders_of (keep_of (λ x. not (matches_of sender 
 -- "then 7, 8; then 6": no order stands, none is for the receiver, none of those is the sender's
 unfoldable pub removed_of : Target → ℕ → Orders → Result Orders NotCancelled
 removed_of sender receiver o =
-    pick (eqb o.count 0) (Err NoOrder)
+    pick (eqb o.list.count 0) (Err NoOrder)
     (pick (eqb (how_many_of All receiver o) 0) (Err NotFound)
     (pick (eqb (how_many_of sender receiver o) 0) (Err NotTheirs)
     (Ok (without_of sender receiver o))))

@@ -1,12 +1,14 @@
 // Timer orders: the moments at which a message is to be delivered, in order of acceptance.
 #![tactic(auto)]
 
-ghost use Rattle.std.specs.Prelude.{◌≡◌};
+ghost use Rattle.std.specs.Prelude.{◌≡◌, ℕ, Bool};
 ghost use Rattle.orders.specs.Moments.{interval_of, delay_of};
-ghost use Rattle.orders.specs.Orders.{standing_of, none_of, push_of, accept_of};
+ghost use Rattle.orders.specs.declared.Order.{Order};
+ghost use Rattle.orders.specs.Orders.{none_of, standing_of, orders_of, kept_from, Decides, accept_of};
 ghost use Rattle.orders.specs.Advance.{due_at, again_of, onward_of, next_due_of, without_place_of};
 ghost use Rattle.orders.specs.Cancel.{cancelled_number, refused_number, is_from, matches_of, how_many_of, without_of, removed_of, to_receiver, cancel_of};
 
+use common::filled::Filled;
 use day::TimeOfDay;
 use process::buffers::Message;
 use process::{Condition, Target};
@@ -29,11 +31,10 @@ pub struct Order {
     pub message: Message,
 }
 
-// The order that was accepted first lies at place 0, and `count` says how many stand. What lies past them makes no difference. No heap: memory is fixed.
+// The orders that stand, the first accepted at place 0. What lies past them makes no difference. No heap: memory is fixed.
 #[derive(Clone, Copy)]
 pub struct Orders {
-    pub places: [Order; 64],
-    pub count: usize,
+    pub list: Filled<Order, 64>,
 }
 
 // Why a cancel is refused: no order leaves.
@@ -66,12 +67,12 @@ impl NotCancelled {
     }
 }
 
-// The answer number of CANCELSCHEDULE.
-pub fn cancelled_number(cancelled: &Result<Orders, NotCancelled>) -> u8
-    ensures { result ≡ cancelled_number cancelled.now }
+// The answer number of CANCELSCHEDULE: 0 where it is done.
+pub fn cancelled_number(cancelled: Result<(), NotCancelled>) -> u8
+    ensures { result ≡ cancelled_number cancelled }
 {
     match cancelled {
-        Ok(_) => 0,
+        Ok(()) => 0,
         Err(why) => why.number(),
     }
 }
@@ -123,7 +124,8 @@ impl Order {
         }
     }
 
-    // It is for the receiver, and from the sender.
+    // It is for the receiver, and from the sender. Two parameters, here and below, and no struct of them: `removed` asks for everybody's orders to the
+    // receiver before it asks for the sender's, so that each question would make one, and each answer take it apart.
     #[tactic(auto, unfolding(crate::specs::Cancel::matches_of))]
     pub fn matches(self, sender: Target, receiver: u8) -> bool
         ensures { result ≡ matches_of sender receiver self }
@@ -169,38 +171,19 @@ impl Orders {
         ensures { result ≡ none_of }
     {
         Orders {
-            places: [Order::NONE; 64],
-            count: 0,
+            list: Filled::empty(Order::NONE),
         }
-    }
-
-    // The orders that stand, the first accepted first.
-    #[tactic(auto, unfolding(crate::specs::Orders::standing_of))]
-    fn standing(&self) -> &[Order]
-        ensures { result.now ≡ standing_of self.now }
-    {
-        &self.places[..self.count.min(MOST_ORDERS)]
-    }
-
-    // Behind all others. (Where all 64 places are taken it is left out: `accept` asks first.)
-    #[tactic(auto, unfolding(crate::specs::Orders::push_of))]
-    fn push(mut self, order: Order) -> Orders
-        ensures { result ≡ push_of self order }
-    {
-        if self.count < MOST_ORDERS {
-            self.places[self.count] = order;
-            self.count += 1;
-        }
-        self
     }
 
     // The order as the last one, if one of so many places is left.
     #[tactic(auto, unfolding(crate::specs::Orders::accept_of))]
-    pub fn accept(self, places: usize, order: Order) -> Option<Orders>
+    pub fn accept(mut self, places: usize, order: Order) -> Option<Orders>
         ensures { result ≡ accept_of self places order }
     {
-        if self.count < places.min(MOST_ORDERS) {
-            Some(self.push(order))
+        // No `then`: tried, it proves, and logs of orders take some 1 percent longer, since its closure can't put into what is at hand.
+        if self.list.count < places.min(MOST_ORDERS) {
+            self.list.put(order);
+            Some(self)
         } else {
             None
         }
@@ -210,21 +193,15 @@ impl Orders {
     pub fn without_place(&self, place: usize) -> Orders
         ensures { result ≡ without_place_of place self.now }
     {
-        let mut left = Orders::none();
-        for (at, order) in self.standing().iter().enumerate() {
-            if at != place {
-                left.places[left.count] = *order;
-                left.count += 1;
-            }
-        }
-        left
+        self.kept(|at, _| at != place)
     }
 
     // How long until an order is next due: a day at most.
     pub fn next_due(&self, clock: TimeOfDay) -> u32
         ensures { result ≡ next_due_of clock self.now }
     {
-        self.standing()
+        self.list
+            .standing()
             .iter()
             .map(|order| clock.until(order.due))
             .min()
@@ -235,7 +212,8 @@ impl Orders {
     pub fn how_many(&self, sender: Target, receiver: u8) -> usize
         ensures { result ≡ how_many_of sender receiver self.now }
     {
-        self.standing()
+        self.list
+            .standing()
             .iter()
             .filter(|order| order.matches(sender, receiver))
             .count()
@@ -245,14 +223,21 @@ impl Orders {
     fn without(&self, sender: Target, receiver: u8) -> Orders
         ensures { result ≡ without_of sender receiver self.now }
     {
-        let mut left = Orders::none();
-        for order in self.standing() {
-            if !order.matches(sender, receiver) {
-                left.places[left.count] = *order;
-                left.count += 1;
+        self.kept(|_, order| !order.matches(sender, receiver))
+    }
+
+    // Those that pass a test of their place and of themselves, in a table that is written anew, free places too.
+    fn kept<F: Fn(usize, &Order) -> bool>(&self, stays: F) -> Orders
+        requires { F.IsAlwaysCallable stays }
+        ensures { (test : ℕ → Order → Bool) → Decides (F.post stays) test → result ≡ orders_of (kept_from test 0 (standing_of self.now)) }
+    {
+        let mut kept = Orders::none();
+        for (at, order) in self.list.standing().iter().enumerate() {
+            if stays(at, order) {
+                kept.list.put(*order);
             }
         }
-        left
+        kept
     }
 
     // CANCELSCHEDULE: the orders that are left. Where a sender is named, only its own leave.
@@ -279,7 +264,7 @@ impl Orders {
     fn removed(&self, sender: Target, receiver: u8) -> Result<Orders, NotCancelled>
         ensures { result ≡ removed_of sender receiver self.now }
     {
-        if self.count == 0 {
+        if self.list.count == 0 {
             return Err(NotCancelled::NoOrder);
         }
         if self.how_many(Target::All, receiver) == 0 {

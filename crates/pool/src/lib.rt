@@ -3,55 +3,78 @@
 #![tactic(auto)]
 
 ghost use Rattle.std.specs.Prelude.{◌≡◌, ◌+◌, leb, replicate};
-ghost use Rattle.pool.specs.Control.{fresh_of, begun_of, agrees_of, began_of, stated_of};
+ghost use Rattle.pool.specs.Control.{fresh_of, user_of, begun_of, agrees_of, began_of, stated_of};
 ghost use Rattle.pool.specs.Parts.{put_of, get_of};
 
 // The largest pool, in bytes.
 pub const LARGEST: u16 = 4_096;
 
-// Stands for a length that was never stated. No Option: no length is as long, and the definitions (`never`) read it so.
-pub const NEVER: u16 = 65_535;
+// What a process has to do with the pool.
+#[derive(Clone, Copy)]
+pub struct User {
+    // It has called INITPOOL.
+    pub begun: bool,
+    // The length that it stated last by POOLCHECK, if it stated one.
+    pub stated: Option<u16>,
+}
 
-// Who uses the pool, by level.
+// Who uses the pool.
 #[derive(Clone, Copy)]
 pub struct Control {
-    // The process has called INITPOOL.
-    pub begun: [bool; 12],
-    // The length that the process stated last by POOLCHECK, or NEVER.
-    pub stated: [u16; 12],
-    // The common length: the one that any process stated last, or NEVER.
-    pub common: u16,
+    // By level.
+    pub users: [User; 12],
+    // The common length: the one that any process stated last.
+    pub common: Option<u16>,
+}
+
+impl User {
+    // Has called neither.
+    pub const NONE: User = User {
+        begun: false,
+        stated: None,
+    };
 }
 
 impl Control {
     // Nobody uses the pool yet.
+    #[tactic(auto, unfolding(crate::specs::Control::fresh_of))]
     pub fn fresh() -> Control
         ensures { result ≡ fresh_of }
     {
         Control {
-            begun: [false; 12],
-            stated: [NEVER; 12],
-            common: NEVER,
+            users: [User::NONE; 12],
+            common: None,
         }
     }
 
+    // What the process at a level has to do with the pool; nothing where there is no such level.
+    fn user(self, level: u8) -> User
+        ensures { result ≡ user_of self level }
+    {
+        self.users
+            .get(usize::from(level))
+            .copied()
+            .unwrap_or(User::NONE)
+    }
+
     // The process at a level has called INITPOOL.
+    #[tactic(auto, unfolding(crate::specs::Control::begun_of))]
     pub fn has_begun(self, level: u8) -> bool
         ensures { result ≡ begun_of self level }
     {
-        self.begun.get(usize::from(level)).copied().unwrap_or(false)
+        self.user(level).begun
     }
 
     // The process at a level has stated no length, or the common one.
+    #[tactic(auto, unfolding(crate::specs::Control::agrees_of))]
     pub fn agrees(self, level: u8) -> bool
         ensures { result ≡ agrees_of self level }
     {
-        let own = self
-            .stated
-            .get(usize::from(level))
-            .copied()
-            .unwrap_or(NEVER);
-        (own == NEVER) | (own == self.common)
+        match (self.user(level).stated, self.common) {
+            (None, _) => true,
+            (Some(own), Some(common)) => own == common,
+            (Some(_), None) => false,
+        }
     }
 
     // The process at a level calls INITPOOL.
@@ -61,7 +84,7 @@ impl Control {
         let mut control = self;
         // No get_mut, here and below: a proof knows no element of an array that was written through it.
         if level < 12 {
-            control.begun[usize::from(level)] = true;
+            control.users[usize::from(level)].begun = true;
         }
         control
     }
@@ -72,9 +95,9 @@ impl Control {
     {
         let mut control = self;
         if level < 12 {
-            control.stated[usize::from(level)] = length;
+            control.users[usize::from(level)].stated = Some(length);
         }
-        control.common = length;
+        control.common = Some(length);
         control
     }
 }

@@ -1,8 +1,9 @@
 -- The four calls leave a steady table: no length that is kept is beyond the pool's size. Assumes nothing.
-use mathlib.Core.Path.{◌≡◌}
+use mathlib.Core.Path.{◌≡◌, subst}
 use mathlib.Core.Bool.{true, not}
 use mathlib.Core.List.{List}
-use Prim.Native.Nat.{ℕ}
+use Rattle.std.specs.Prelude.{Some}
+use Prim.Native.Nat.{ℕ, ◌<◌}
 use lib.Dec.{eqb, leb, ltb}
 use lib.ListN.{length, get_or, set}
 use lib.Seq.{set_out, get_or-set_same, get_or-set_other}
@@ -10,7 +11,8 @@ use borrow.Author.Tests.{eqb-true, eqb-false, ltb-true, ltb-false}
 use Rattle.common.proofs.Cases.{by_test, both_true, either_true}
 use Rattle.common.proofs.Every.{every_below_lem, below_every}
 use Rattle.pool.specs.declared.Control.{Control}
-use Rattle.pool.specs.Control.{never, began_of, stated_of}
+use Rattle.pool.specs.declared.User.{User}
+use Rattle.pool.specs.Control.{no_user, user_of, beginning, stating, began_of, stated_of}
 use Rattle.table.specs.declared.answers.Answer.TheVariants.{PoolOverflow}
 use Rattle.table.specs.declared.configs.Config.{Config}
 use Rattle.table.specs.declared.Table.{Table}
@@ -23,30 +25,39 @@ use Rattle.pooling.specs.Pooling.{length_good, init_pool_of, pool_check_of, get_
 
 module _ (c : Config) where
   -- a length that POOLCHECK lets pass is within the size
-  good_within : (stated : ℕ) → length_good c stated ≡ true → length_within c stated ≡ true
+  good_within : (stated : ℕ) → length_good c stated ≡ true → length_within c (Some stated) ≡ true
   unfolding length_good
-  good_within stated good = either_true (eqb stated never) _ (both_true (not (negative16 stated)) (leb stated c.pool) good).1
+  good_within stated good = (both_true (not (negative16 stated)) (leb stated c.pool) good).1
 
   -- so all lengths are, with such a one at a level; there is none past the last level
-  lengths_set : (lengths : List ℕ) (level stated : ℕ) → lengths_sound c lengths ≡ true → length_within c stated ≡ true → lengths_sound c (set lengths level stated) ≡ true
+  lengths_set : (users : List User) (level : ℕ) (user : User) → lengths_sound c users ≡ true → (level < 12 → length_sound c level user.stated ≡ true)
+      → lengths_sound c (set users level user) ≡ true
   unfolding lengths_sound
-  lengths_set lengths level stated sound within =
-      by_test (ltb level (length lengths))
+  lengths_set users level user sound within =
+      by_test (ltb level (length users))
       (λ there. below_every 12 _
       (λ at less. by_test (eqb at level)
       (λ e. let here : at ≡ level = eqb-true at level e in
-      rw (here, get_or-set_same lengths level stated 0 (ltb-true level _ there)) (either_true (not (configured_of c level)) _ within))
-      (λ e. rw (get_or-set_other lengths level at stated 0 (eqb-false at level e)) (every_below_lem 12 (λ i. length_sound c i (get_or lengths i 0)) sound at less))))
-      (λ past. rw (set_out lengths level stated (ltb-false level _ past)) sound)
+      rw (here, get_or-set_same users level user no_user (ltb-true level _ there)) (within (subst (λ i. i < 12) here less)))
+      (λ e. rw (get_or-set_other users level at user no_user (eqb-false at level e))
+      (every_below_lem 12 (λ i. length_sound c i (get_or users i no_user).stated) sound at less))))
+      (λ past. rw (set_out users level user (ltb-false level _ past)) sound)
 
   stated_sound : (control : Control) (level stated : ℕ) → pool_sound c control ≡ true → length_good c stated ≡ true → pool_sound c (stated_of control level stated) ≡ true
   unfolding pool_sound stated_of
   stated_sound control level stated sound good =
-      rw (lengths_set control.stated level stated (both_true (lengths_sound c control.stated) (length_within c control.common) sound).0 (good_within stated good)) (good_within stated good)
+      let parts = both_true (lengths_sound c control.users) (length_within c control.common) sound in
+      rw (lengths_set control.users level (stating (user_of control level) stated) parts.0
+      (λ less. either_true (not (configured_of c level)) _ (good_within stated good)))
+      (good_within stated good)
 
   began_sound : (control : Control) (level : ℕ) → pool_sound c control ≡ true → pool_sound c (began_of control level) ≡ true
-  unfolding pool_sound began_of
-  began_sound control level sound = sound
+  unfolding pool_sound began_of lengths_sound
+  began_sound control level sound =
+      let parts = both_true (lengths_sound c control.users) (length_within c control.common) sound in
+      rw (lengths_set control.users level (beginning (user_of control level)) parts.0
+      (λ less. every_below_lem 12 (λ i. length_sound c i (get_or control.users i no_user).stated) parts.0 level less))
+      parts.1
 
 module _ (t : Table) (caller : ℕ) where
   pub init_pool_keeps : Steady t → Keeps (init_pool_of t caller)

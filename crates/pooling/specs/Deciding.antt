@@ -1,53 +1,46 @@
 -- How the code comes to what the four calls do: each decides on small parts, and a table takes what was decided.
-use Rattle.std.specs.Prelude.{[], ℕ, Ok, Err}
+use Rattle.std.specs.Prelude.{[], ℕ}
 use Rattle.pool.specs.declared.Control.{Control}
 use Rattle.pool.specs.Control.{began_of, stated_of}
 use Rattle.process.specs.declared.Process.{Process}
 use Rattle.table.specs.declared.answers.Answer.{Answer}
 use Rattle.table.specs.declared.configs.Config.{Config}
 use Rattle.table.specs.declared.Outcome.{Outcome}
+use Rattle.table.specs.declared.Shown.{Shown}
 use Rattle.table.specs.declared.Shown.TheVariants.{Nothing, Data}
 use Rattle.table.specs.declared.Table.{Table}
-use Rattle.table.specs.Wakes.{no_wakes_of}
+use Rattle.calls.specs.declared.Decided.{Decided}
+use Rattle.calls.specs.Decisions.{decided, decided_by, told_of}
+use Rattle.calls.specs.Effects.{nothing}
 use Rattle.calls.specs.Levels.{with_pool}
 use Rattle.calls.specs.Verdicts.{Checked, after, by_caller}
-use Rattle.pooling.specs.declared.Decision.{Decision}
 use Rattle.pooling.specs.Pooling.{stating_checks}
 
--- an answer that carries nothing
-abbrev pub alone : Answer → Control → Decision
-alone answer control = record { answer = answer; shown = Nothing; control = control }
-
--- where the checks refuse the call, the users stay as they are
-abbrev pub decided_by : Checked → Control → Decision → Decision
-decided_by (Ok tt) control decision = decision
-decided_by (Err answer) control decision = alone answer control
+-- who uses the pool, beside an answer that carries nothing
+abbrev pub alone : Answer → Control → Decided Control
+alone answer control = decided answer nothing control
 
 -- beside a table in which it stands who uses the pool
-unfoldable pub told_of : Table → Decision → Outcome
-told_of t x = record {
-  answer = x.answer;
-  shown = x.shown;
-  wakes = no_wakes_of;
-  table = t;
-}
-
-abbrev pub told_in : Table → Decision → Outcome
-told_in t x = told_of (with_pool t x.control) x
+abbrev pub told_in : Table → Decided Control → Outcome
+told_in t x = told_of (with_pool t x.part) x
 
 -- INITPOOL
-unfoldable pub entered_of : Config → Process → Control → ℕ → Decision
+unfoldable pub entered_of : Config → Process → Control → ℕ → Decided Control
 entered_of c p control caller = decided_by (after (by_caller c p caller) []) control (alone Answer.Ok (began_of control caller))
 
 -- POOLCHECK
-unfoldable pub stated_by : Config → Process → Control → ℕ → ℕ → Decision
+unfoldable pub stated_by : Config → Process → Control → ℕ → ℕ → Decided Control
 stated_by c p control caller stated =
     decided_by (after (by_caller c p caller) (stating_checks c control caller stated)) control (alone Answer.Ok (stated_of control caller stated))
 
+-- GETPOOL and PUTPOOL, by their checks, with what is shown where they are answered 0: the users stay as they are
+unfoldable pub accessed_of : Checked → Control → Shown → Decided Control
+accessed_of v control shown = decided_by v control (record { answer = Answer.Ok; shown = shown; part = control })
+
 -- GETPOOL, by its checks
-unfoldable pub brought_of : Checked → Control → ℕ → Decision
-brought_of v control count = decided_by v control (record { answer = Answer.Ok; shown = Data count; control = control })
+abbrev pub brought_of : Checked → Control → ℕ → Decided Control
+brought_of v control count = accessed_of v control (Data count)
 
 -- PUTPOOL, by its checks
-unfoldable pub given_of : Checked → Control → Decision
-given_of v control = decided_by v control (alone Answer.Ok control)
+abbrev pub given_of : Checked → Control → Decided Control
+given_of v control = accessed_of v control Nothing

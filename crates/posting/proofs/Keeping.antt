@@ -7,9 +7,10 @@ use native.Mathlib.Omega.{arith}
 use lib.ListN.{length}
 use borrow.Author.Tests.{ltb-true, le-leb}
 use Rattle.common.proofs.Cases.{by_test, by_pick}
+use Rattle.common.proofs.Filling.{push_count}
 use Rattle.process.specs.declared.Condition.{Condition}
 use Rattle.process.specs.declared.Condition.TheVariants.{Always, Waiting}
-use Rattle.process.specs.declared.Delivery.{Delivery}
+use Rattle.process.specs.Process.{Delivery}
 use Rattle.process.specs.declared.Fate.{Fate}
 use Rattle.process.specs.declared.Process.{Process}
 use Rattle.process.specs.declared.buffers.Message.{Message}
@@ -61,11 +62,11 @@ module _ (places : ℕ) (p : Process) where
   }
 
   -- a message behind the others, where a place is left
-  tame_behind : (m : Message) → waits p ≡ false → p.buffer.count < min places 16
+  tame_behind : (m : Message) → waits p ≡ false → p.buffer.list.count < min places 16
       → Tame places p (process_of p.state p.priority p.marks (behind_of p.buffer m))
   tame_behind m fails room = record {
     priority = λ within. within;
-    kept = λ within none. (le-leb (p.buffer.count + 1) places (omega arith), rw fails);
+    kept = λ within none. (rw (push_count 16 p.buffer.list m (omega arith)) (le-leb (p.buffer.list.count + 1) places (omega arith)), rw fails);
     queued = refl;
   }
 
@@ -74,7 +75,7 @@ module _ (places : ℕ) (p : Process) where
   unfolding stored_of put_of
   tame_stored m fails =
       by_test (room_of p.buffer places)
-      (λ room. rw room (tame_behind m fails (ltb-true p.buffer.count (min places 16) room)))
+      (λ room. rw room (tame_behind m fails (ltb-true p.buffer.list.count (min places 16) room)))
       (λ full. rw full tame_same)
 
   -- a message for who does not wait for one

@@ -1,23 +1,15 @@
 -- Letters that are posted one after the other. Assumes nothing.
 use mathlib.Core.Path.{◌≡◌, ◌∙◌, refl, ap, sym}
 use mathlib.Core.Bool.{Bool, true, false, ◌||◌}
-use mathlib.Core.List.{List, [], ◌∷◌, ◌++◌, append-nil, append_assoc}
+use mathlib.Core.List.{List, [], ◌∷◌, ◌++◌}
 use Prim.Native.Nat.{ℕ}
 use Rattle.common.specs.Fold.{fold_of}
 use Rattle.common.proofs.Fold.{fold_append}
+use Rattle.common.proofs.Filling.{push_all}
 use Rattle.process.specs.declared.Process.{Process}
-use Rattle.table.specs.declared.wakes.Wake.{Wake}
-use Rattle.table.specs.declared.wakes.Wakes.{Wakes}
-use Rattle.table.specs.Wakes.{wakes_of, no_wakes_of, wake_push_of}
-use Rattle.table.proofs.Waking.{push_wakes}
+use Rattle.table.specs.Wakes.{nobody, Wakes, wake_push_of}
 use Rattle.posting.specs.declared.Origin.{Origin}
-use Rattle.posting.specs.declared.Posting.{Posting}
-use Rattle.posting.specs.Posting.{Letter, Posted, joined, one_of, all_of, posting_of, begin_of, added_of, step_of}
-
--- wakes that are pushed one after the other stand behind the others
-pub push_all : (l more : List Wake) → fold_of wake_push_of (wakes_of l) more ≡ wakes_of (l ++ more)
-push_all l [] = ap wakes_of (sym (append-nil l))
-push_all l (w ∷ more) = rw (push_wakes l w, push_all (l ++ (w ∷ [])) more, append_assoc l (w ∷ []) more)
+use Rattle.posting.specs.Posting.{Delivered, Letter, Posted, joined, one_of, all_of, posting_of, begin_of, added_of, step_of}
 
 -- what fails adds nothing to a test
 pub or_nothing : (b : Bool) → b || false ≡ b
@@ -28,32 +20,32 @@ or_third : (a b c : Bool) → (a || b) || c ≡ a || (b || c)
 or_third true b c = refl
 or_third false b c = refl
 
-abbrev made : List Process → Wakes → Bool → Posting
+abbrev made : List Process → Wakes → Bool → Delivered
 made processes wakes full = record { processes = processes; wakes = wakes; full = full }
 
 -- nothing more is nothing
-added_none : (s : Posting) → added_of s (record { processes = s.processes; wakes = []; full = false }) ≡ s
+added_none : (s : Delivered) → added_of s (record { processes = s.processes; wakes = []; full = false }) ≡ s
 unfolding added_of
 added_none s = ap (made s.processes s.wakes) (or_nothing s.full)
 
 -- some, and then others
-added_joined : (s : Posting) (first then : Posted) → added_of (added_of s first) then ≡ added_of s (joined first then)
+added_joined : (s : Delivered) (first then : Posted) → added_of (added_of s first) then ≡ added_of s (joined first then)
 unfolding added_of
 added_joined s first then =
     ap (λ ws. made then.processes ws ((s.full || first.full) || then.full)) (sym (fold_append wake_push_of s.wakes first.wakes then.wakes))
     ∙ ap (made then.processes (fold_of wake_push_of s.wakes (first.wakes ++ then.wakes))) (or_third s.full first.full then.full)
 
 module _ (origin : Origin) (places : ℕ) where
-  added_processes : (s : Posting) (x : Letter) → (step_of origin places s x).processes ≡ (one_of origin places x s.processes).processes
+  added_processes : (s : Delivered) (x : Letter) → (step_of origin places s x).processes ≡ (one_of origin places x s.processes).processes
   unfolding step_of added_of
   added_processes s x = refl
 
-  step_joined : (s : Posting) (x : Letter) (then : Posted) → added_of (step_of origin places s x) then ≡ added_of s (joined (one_of origin places x s.processes) then)
+  step_joined : (s : Delivered) (x : Letter) (then : Posted) → added_of (step_of origin places s x) then ≡ added_of s (joined (one_of origin places x s.processes) then)
   unfolding step_of
   step_joined s x then = added_joined s (one_of origin places x s.processes) then
 
   -- a loop that posts letters does what became of them all
-  posts : (s : Posting) (letters : List Letter) → fold_of (step_of origin places) s letters ≡ added_of s (all_of origin places letters s.processes)
+  posts : (s : Delivered) (letters : List Letter) → fold_of (step_of origin places) s letters ≡ added_of s (all_of origin places letters s.processes)
   unfolding all_of
   posts s [] = sym (added_none s)
   posts s (x ∷ letters) =
@@ -63,7 +55,7 @@ module _ (origin : Origin) (places : ℕ) where
 
   -- and so from the first on
   pub posts_begin : (processes : List Process) (letters : List Letter) → fold_of (step_of origin places) (begin_of processes) letters ≡ posting_of (all_of origin places letters processes)
-  unfolding begin_of added_of posting_of no_wakes_of
+  unfolding begin_of added_of posting_of
   posts_begin processes letters =
       posts (begin_of processes) letters
-      ∙ ap (λ ws. made (all_of origin places letters processes).processes ws (all_of origin places letters processes).full) (push_all [] (all_of origin places letters processes).wakes)
+      ∙ ap (λ ws. made (all_of origin places letters processes).processes ws (all_of origin places letters processes).full) (push_all 12 nobody [] (all_of origin places letters processes).wakes)

@@ -14,7 +14,7 @@ use Rattle.common.proofs.Cases.{by_test, never_both}
 use Rattle.common.proofs.Once.{stands_cases, stands_none}
 use Rattle.process.specs.declared.Condition.{Condition}
 use Rattle.process.specs.declared.Condition.TheVariants.{Always, Waiting}
-use Rattle.process.specs.declared.Delivery.{Delivery}
+use Rattle.process.specs.Process.{Delivery}
 use Rattle.process.specs.declared.Fate.TheVariants.{Full}
 use Rattle.process.specs.declared.Process.{Process}
 use Rattle.process.specs.declared.buffers.Buffer.{Buffer}

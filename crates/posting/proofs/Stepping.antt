@@ -9,26 +9,24 @@ use lib.Seq.{set_out}
 use Rattle.common.specs.Fold.{fold_of}
 use Rattle.common.proofs.Cases.{never_both}
 use Rattle.common.proofs.Lists.{get_or_within}
-use Rattle.process.specs.declared.Delivery.{Delivery}
+use Rattle.process.specs.Process.{Delivery}
 use Rattle.process.specs.declared.Fate.{Fate}
 use Rattle.process.specs.declared.Fate.TheVariants.{Handed, Stored, NotWaiting, Full}
 use Rattle.process.specs.declared.Process.{Process}
 use Rattle.process.specs.declared.buffers.Message.{Message}
-use Rattle.process.specs.Process.{fresh_of, deliver_of}
-use Rattle.table.specs.declared.wakes.Wakes.{Wakes}
-use Rattle.table.specs.Wakes.{wake_push_of}
+use Rattle.process.specs.Process.{delivery, fresh_of, deliver_of}
+use Rattle.table.specs.Wakes.{Wakes, wake_push_of}
 use Rattle.calls.specs.Levels.{process_at}
 use Rattle.posting.specs.declared.Origin.{Origin}
-use Rattle.posting.specs.declared.Posting.{Posting}
-use Rattle.posting.specs.Posting.{Letter, is_handed, is_full, delivered_to, pushed_for, one_of, added_of, step_of}
+use Rattle.posting.specs.Posting.{Delivered, Letter, is_handed, is_full, delivered_to, pushed_for, one_of, added_of, step_of}
 
-module _ (origin : Origin) (places : ℕ) (posting : Posting) (x : Letter) (twelve : length posting.processes ≡ 12) where
+module _ (origin : Origin) (places : ℕ) (posting : Delivered) (x : Letter) (twelve : length posting.processes ≡ 12) where
   -- what became of it at a receiver
   abbrev delivered_as : Process → Delivery
   delivered_as p = delivered_to origin places x.condition x.message p
 
   -- the receiver's record changes, and its wake is told, or the loss
-  abbrev pub within_of : Process → Posting
+  abbrev pub within_of : Process → Delivered
   within_of p = record {
     processes = set posting.processes x.receiver (delivered_as p).process;
     wakes = pushed_for posting.wakes x.receiver (delivered_as p).fate x.message;
@@ -38,6 +36,16 @@ module _ (origin : Origin) (places : ℕ) (posting : Posting) (x : Letter) (twel
   pub step_within : (d : Process) → x.receiver < 12 → step_of origin places posting x ≡ within_of (get_or posting.processes x.receiver d)
   unfolding step_of added_of one_of delivered_to process_at
   step_within d within = rw (get_or_within posting.processes x.receiver fresh_of d (omega arith))
+
+  -- the same, by what became of it and the record afterwards
+  pub step_left : (d : Process) (fate : Fate) (after : Process) → x.receiver < 12 → delivery fate after ≡ delivered_as (get_or posting.processes x.receiver d)
+      → record {
+        processes = set posting.processes x.receiver after;
+        wakes = pushed_for posting.wakes x.receiver fate x.message;
+        full = posting.full || is_full fate;
+      }
+      ≡ step_of origin places posting x
+  step_left d fate after within same = rw (step_within d within, ← same)
 
   -- where there is no such level, no record changes
   pub step_outside : 12 ≤ x.receiver → step_of origin places posting x ≡ record {

@@ -13,7 +13,7 @@ use Rattle.common.proofs.Cases.{by_test, never_both}
 use Rattle.common.proofs.Once.{stands_cases, stands_none, once_below}
 use Rattle.process.specs.declared.Condition.{Condition}
 use Rattle.process.specs.declared.Condition.TheVariants.{Always, Waiting}
-use Rattle.process.specs.declared.Delivery.{Delivery}
+use Rattle.process.specs.Process.{Delivery}
 use Rattle.process.specs.declared.Fate.{Fate}
 use Rattle.process.specs.declared.Process.{Process}
 use Rattle.process.specs.declared.buffers.Message.{Message}

@@ -2,9 +2,8 @@
 use Rattle.std.specs.Prelude.{Bool, true, false, ◌||◌, List, [], ◌∷◌, ◌++◌, ℕ, set}
 use Rattle.common.specs.Choice.{pick}
 use Rattle.common.specs.Fold.{fold_of}
-use Rattle.inputs.specs.InputSet.{empty_of}
 use Rattle.process.specs.declared.Condition.{Condition}
-use Rattle.process.specs.declared.Delivery.{Delivery}
+use Rattle.process.specs.Process.{Delivery}
 use Rattle.process.specs.declared.Fate.{Fate}
 use Rattle.process.specs.declared.Fate.TheVariants.{Handed, Stored, NotWaiting, Full}
 use Rattle.process.specs.declared.Process.{Process}
@@ -13,8 +12,7 @@ use Rattle.process.specs.declared.marking.Told.{Told}
 use Rattle.process.specs.Process.{overflow_marked_of, time_marked_of, deliver_of}
 use Rattle.table.specs.declared.wakes.Wake.{Wake}
 use Rattle.table.specs.declared.wakes.Woken.TheVariants.{ByMessage}
-use Rattle.table.specs.declared.wakes.Wakes.{Wakes}
-use Rattle.table.specs.Wakes.{wakes_of, no_wakes_of, wake_push_of}
+use Rattle.table.specs.Wakes.{Wakes, wakes_of, no_wakes_of, wake_push_of}
 use Rattle.calls.specs.Levels.{process_at}
 use Rattle.posting.specs.declared.Origin.{Origin}
 use Rattle.posting.specs.declared.Origin.TheVariants.{Sent, Timed}
@@ -99,25 +97,32 @@ all_of origin places [] processes = record { processes = processes; wakes = []; 
 all_of origin places (x ∷ letters) processes =
     joined (one_of origin places x processes) (all_of origin places letters (one_of origin places x processes).processes)
 
--- how that lies in the code's arrays
+-- how that lies in the code's arrays: the processes, and beside them what the code keeps of the messages
+pub record Delivered : Type 0 where
+  pub processes : List Process
+  pub wakes : Wakes
+  pub full : Bool
 
-unfoldable pub posting_of : Posted → Posting
+abbrev pub delivered_in : List Process → Posting → Delivered
+delivered_in processes posting = record { processes = processes; wakes = posting.wakes; full = posting.full }
+
+unfoldable pub posting_of : Posted → Delivered
 posting_of posted = record { processes = posted.processes; wakes = wakes_of posted.wakes; full = posted.full }
 
-unfoldable pub begin_of : List Process → Posting
+unfoldable pub begin_of : List Process → Delivered
 begin_of processes = record { processes = processes; wakes = no_wakes_of; full = false }
 
 abbrev pub pushed_for : Wakes → ℕ → Fate → Message → Wakes
 pushed_for wakes level fate m = fold_of wake_push_of wakes (wake_by level fate m)
 
 -- what became of more messages, after those that were delivered before
-unfoldable pub added_of : Posting → Posted → Posting
-added_of posting posted = record {
+unfoldable pub added_of : Delivered → Posted → Delivered
+added_of so_far posted = record {
   processes = posted.processes;
-  wakes = fold_of wake_push_of posting.wakes posted.wakes;
-  full = posting.full || posted.full;
+  wakes = fold_of wake_push_of so_far.wakes posted.wakes;
+  full = so_far.full || posted.full;
 }
 
 -- one letter more
-unfoldable pub step_of : Origin → ℕ → Posting → Letter → Posting
-step_of origin places posting x = added_of posting (one_of origin places x posting.processes)
+unfoldable pub step_of : Origin → ℕ → Delivered → Letter → Delivered
+step_of origin places so_far x = added_of so_far (one_of origin places x so_far.processes)

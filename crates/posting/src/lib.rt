@@ -2,12 +2,14 @@
 // marks of those that lost one and the wakes of those that waited.
 #![tactic(auto)]
 
-ghost use Rattle.std.specs.Prelude.{◌≡◌};
-ghost use Rattle.posting.specs.Posting.{letter, is_handed, is_full, is_lost, marked_by, delivered_to, begin_of, pushed_for, step_of};
+ghost use Rattle.std.specs.Prelude.{◌≡◌, List};
+ghost use Rattle.process.specs.declared.Process.{Process};
+ghost use Rattle.process.specs.Process.{delivery};
+ghost use Rattle.posting.specs.Posting.{letter, is_handed, is_full, is_lost, marked_by, delivered_to, delivered_in, begin_of, pushed_for, step_of};
 
 use process::buffers::Message;
-use process::{Condition, Delivery, Fate, Process};
-use table::wakes::{Wake, Wakes, Woken};
+use process::{Condition, Fate, Process};
+use table::wakes::{self, Wake, Wakes, Woken};
 
 // Where a message comes from.
 #[derive(Clone, Copy)]
@@ -18,12 +20,10 @@ pub enum Origin {
     Timed,
 }
 
-// As far as the messages have been delivered.
+// What came of the messages that have been delivered so far: who wakes, and whether a full buffer lost one.
 #[derive(Drop)]
 pub struct Posting {
-    pub processes: [Process; 12],
     pub wakes: Wakes,
-    // A full buffer lost a message.
     pub full: bool,
 }
 
@@ -49,37 +49,39 @@ fn is_lost(fate: Fate) -> bool
     matches!(fate, Fate::NotWaiting | Fate::Full)
 }
 
-// The receiver with the mark that a lost message leaves: SEND's is the overflow mark of a full buffer, a timer order's the time
-// mark.
-fn marked(origin: Origin, fate: Fate, process: Process) -> Process
-    ensures { result ≡ marked_by origin fate process }
+// The mark that a lost message leaves at its receiver: SEND's is the overflow mark of a full buffer, a timer order's the time mark.
+#[tactic(auto, unfolding(crate::specs::Posting::marked_by))]
+fn mark(origin: Origin, fate: Fate, process: &mut Process)
+    ensures { process.new ≡ marked_by origin fate process.old }
 {
     match origin {
-        Origin::Sent if is_full(fate) => process.overflow_marked(),
-        Origin::Sent => process,
-        Origin::Timed if is_lost(fate) => process.time_marked(),
-        Origin::Timed => process,
+        Origin::Sent => {
+            if is_full(fate) {
+                process.mark_overflow();
+            }
+        }
+        Origin::Timed => {
+            if is_lost(fate) {
+                process.mark_time();
+            }
+        }
     }
 }
 
-// A message at its receiver, with the mark that it leaves where it is lost.
-pub fn delivered(
+// A message at its receiver, with the mark that it leaves where it is lost. Condition and message go side by side wherever a message goes: hosts hand them
+// over apart, and definitions and laws take them apart, so a struct of the two would be packed at each call for each contract to unpack: no plainer.
+pub fn deliver(
     origin: Origin,
     places: usize,
     condition: Condition,
     message: Message,
-    process: Process,
-) -> Delivery
-    ensures { result ≡ delivered_to origin places condition message process }
+    process: &mut Process,
+) -> Fate
+    ensures { delivery result process.new ≡ delivered_to origin places condition message process.old }
 {
-    let Delivery {
-        fate,
-        process: after,
-    } = process.deliver(condition, places, message);
-    Delivery {
-        fate,
-        process: marked(origin, fate, after),
-    }
+    let fate = process.deliver(condition, places, message);
+    mark(origin, fate, process);
+    fate
 }
 
 // The wakes, and the receiver's own behind them if the message was handed over.
@@ -97,12 +99,11 @@ pub fn pushed(wakes: Wakes, level: u8, fate: Fate, message: Message) -> Wakes
 
 impl Posting {
     // Before the first message.
-    pub fn begin(processes: [Process; 12]) -> Posting
-        ensures { result ≡ begin_of processes }
+    pub fn begin() -> Posting
+        ensures { (processes : List Process) → delivered_in processes result ≡ begin_of processes }
     {
         Posting {
-            processes,
-            wakes: Wakes::none(),
+            wakes: wakes::none(),
             full: false,
         }
     }
@@ -111,21 +112,22 @@ impl Posting {
     // in for the receiver, and nobody's record changes.
     pub fn post(
         &mut self,
+        processes: &mut [Process; 12],
         origin: Origin,
         places: usize,
         receiver: u8,
         condition: Condition,
         message: Message,
     )
-        ensures { self.new ≡ step_of origin places self.old (letter receiver condition message) }
+        ensures { delivered_in processes.new self.new ≡ step_of origin places (delivered_in processes.old self.old) (letter receiver condition message) }
     {
         let fate = if receiver < 12 {
-            let process = self.processes[receiver as usize];
-            let delivery = delivered(origin, places, condition, message, process);
-            self.processes[receiver as usize] = delivery.process;
-            delivery.fate
+            let mut process = processes[receiver as usize];
+            let fate = deliver(origin, places, condition, message, &mut process);
+            processes[receiver as usize] = process;
+            fate
         } else {
-            Process::fresh().deliver(condition, places, message).fate
+            Process::fresh().deliver(condition, places, message)
         };
         self.wakes = pushed(self.wakes, receiver, fate, message);
         self.full |= is_full(fate);

@@ -47,13 +47,13 @@ module _ (p : Process) (condition : Condition) (places : ℕ) (m : Message) wher
 
 module _ (p : Process) (places : ℕ) (m : Message) (other : p.state ≡ WaitingForMessage → ⊥) where
   -- ALWAYS, with a place left: kept behind the others, and nothing else of the process changes
-  pub always_stored : p.buffer.count < min places 16
+  pub always_stored : p.buffer.list.count < min places 16
       → deliver_of p Always places m ≡ record { fate = Stored; process = process_of p.state p.priority p.marks (behind_of p.buffer m) }
   unfolding stored_of
   always_stored room = deliver_other p Always places m other ∙ rw (put_room p.buffer places m room)
 
   -- ALWAYS, with no place left, and WAITING: the process is as it was
-  pub always_full : min places 16 ≤ p.buffer.count → deliver_of p Always places m ≡ record { fate = Full; process = p }
+  pub always_full : min places 16 ≤ p.buffer.list.count → deliver_of p Always places m ≡ record { fate = Full; process = p }
   unfolding stored_of
   always_full full = deliver_other p Always places m other ∙ rw (put_full p.buffer places m full)
 

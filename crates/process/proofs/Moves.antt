@@ -90,6 +90,10 @@ entry_next s c =
     let entry = every_at (right s) causes Start (rw (row_known s).1 at row) (column_of c) (column_known c).0 in
     same_is (entry_of s c) (next_of s c) (rw (column_known c).1 at entry)
 
+-- the same at a row and a column that are theirs
+pub entry_at : (s : State) (c : Cause) (row column : ℕ) → row ≡ row_of s → column ≡ column_of c → get_or (get_or rows row []) column None ≡ next_of s c
+entry_at s c row column at_row at_column = rw (at_row, at_column) (entry_next s c)
+
 -- how many of the causes lead anywhere from a state, and from all of them
 abbrev leading : State → List Cause → ℕ
 leading s [] = 0

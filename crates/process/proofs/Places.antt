@@ -10,10 +10,11 @@ use Rattle.std.specs.Prelude.{Some, None}
 use Rattle.std.specs.List.{copy_within}
 use Rattle.std.proofs.lemmas.List.{set-append_right}
 use Rattle.std.proofs.lemmas.List.Edits.{paste_all}
+use Rattle.common.specs.Filled.{items_of}
 use Rattle.common.proofs.Lists.{get_or_within}
 use Rattle.process.specs.declared.buffers.Message.{Message}
 use Rattle.process.specs.declared.buffers.Buffer.{Buffer}
-use Rattle.process.specs.Messages.{zeros, messages_of, behind_of, put_of, oldest_of, shifted_of, rest_of}
+use Rattle.process.specs.Messages.{zeros, behind_of, put_of, oldest_of, shifted_of, rest_of}
 
 -- sixteen messages moved one place down, and the last place given to zeros
 pub moved_down : (kept : List Message) → length kept ≡ 16 → set (copy_within kept 1 (length kept) 0) 15 zeros ≡ shifted_of kept
@@ -24,26 +25,26 @@ moved_down kept long =
     rw (long, paste_all kept 0 (drop 1 kept) 15 (sym rest), last, set-append_right (drop 1 kept) _ 15 15 zeros rest (omega arith))
 
 module _ (b : Buffer) where
-  pub oldest_none : b.count ≡ 0 → oldest_of b ≡ zeros
-  unfolding oldest_of messages_of
-  oldest_none none = ap (λ (n : ℕ). get_or (take n b.kept) 0 zeros) none
+  pub oldest_none : b.list.count ≡ 0 → oldest_of b ≡ zeros
+  unfolding oldest_of items_of
+  oldest_none none = let no : min b.list.count 16 ≡ 0 = omega arith in ap (λ (n : ℕ). get_or (take n b.list.items) 0 zeros) no
 
-  pub oldest_first : (d : Message) → (b.count ≡ 0 → ⊥) → 0 < length b.kept → oldest_of b ≡ get_or b.kept 0 d
-  unfolding oldest_of messages_of
-  oldest_first d some long = get_or-take b.count b.kept 0 zeros (omega arith) ∙ get_or_within b.kept 0 zeros d long
+  pub oldest_first : (d : Message) → (b.list.count ≡ 0 → ⊥) → 0 < length b.list.items → oldest_of b ≡ get_or b.list.items 0 d
+  unfolding oldest_of items_of
+  oldest_first d some long = get_or-take (min b.list.count 16) b.list.items 0 zeros (omega arith) ∙ get_or_within b.list.items 0 zeros d long
 
-  pub rest_none : b.count ≡ 0 → rest_of b ≡ b
+  pub rest_none : b.list.count ≡ 0 → rest_of b ≡ b
   unfolding rest_of
-  rest_none none = rw (eq-eqb b.count 0 none)
+  rest_none none = rw (eq-eqb b.list.count 0 none)
 
-  pub rest_some : (b.count ≡ 0 → ⊥) → rest_of b ≡ record { kept = shifted_of b.kept; count = b.count - 1 }
+  pub rest_some : (b.list.count ≡ 0 → ⊥) → rest_of b ≡ record { list = record { items = shifted_of b.list.items; count = b.list.count - 1 } }
   unfolding rest_of
-  rest_some some = rw (ne_eqb b.count 0 some)
+  rest_some some = rw (ne_eqb b.list.count 0 some)
 
-  pub put_room : (places : ℕ) (m : Message) → b.count < min places 16 → put_of b places m ≡ Some (behind_of b m)
+  pub put_room : (places : ℕ) (m : Message) → b.list.count < min places 16 → put_of b places m ≡ Some (behind_of b m)
   unfolding put_of
-  put_room places m room = rw (lt-ltb b.count (min places 16) room)
+  put_room places m room = rw (lt-ltb b.list.count (min places 16) room)
 
-  pub put_full : (places : ℕ) (m : Message) → min places 16 ≤ b.count → put_of b places m ≡ None
+  pub put_full : (places : ℕ) (m : Message) → min places 16 ≤ b.list.count → put_of b places m ≡ None
   unfolding put_of
-  put_full places m full = rw (le-ltb b.count (min places 16) full)
+  put_full places m full = rw (le-ltb b.list.count (min places 16) full)

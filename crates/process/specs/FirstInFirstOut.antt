@@ -24,7 +24,7 @@ module _ (places : ℕ) where
   -- the message that a step hands out
   abbrev pub out_of : Step → Buffer → List Message
   out_of (putting m) b = []
-  out_of taking b = pick (eqb b.count 0) [] (oldest_of b ∷ [])
+  out_of taking b = pick (eqb b.list.count 0) [] (oldest_of b ∷ [])
 
   -- the buffer after a sequence of steps, and the messages that went in and came out on the way, in order
   abbrev pub after_of : List Step → Buffer → Buffer
@@ -41,5 +41,5 @@ module _ (places : ℕ) where
 
 -- a buffer of sixteen places with no more messages than that
 pub record Whole (b : Buffer) : Type 0 where
-  pub places : length b.kept ≡ 16
-  pub within : b.count ≤ 16
+  pub places : length b.list.items ≡ 16
+  pub within : b.list.count ≤ 16

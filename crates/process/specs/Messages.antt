@@ -1,6 +1,7 @@
 -- Document 01, "Messages": "Sixteen bytes. Buffers are first in, first out, NP places, freed places used again."
-use Rattle.std.specs.Prelude.{Bool, Option, Some, None, List, [], ◌∷◌, ◌++◌, ℕ, ◌+◌, ◌-◌, min, eqb, ltb, get_or, take, drop, set, replicate}
+use Rattle.std.specs.Prelude.{Bool, Option, Some, None, List, [], ◌∷◌, ◌++◌, ℕ, ◌-◌, min, eqb, ltb, get_or, drop, replicate}
 use Rattle.common.specs.Choice.{pick}
+use Rattle.common.specs.Filled.{items_of, filled_of, pushed_of}
 use Rattle.process.specs.declared.buffers.Message.{Message}
 use Rattle.process.specs.declared.buffers.Buffer.{Buffer}
 
@@ -8,19 +9,19 @@ abbrev pub zeros : Message
 zeros = record { bytes = replicate 16 0 }
 
 -- the messages that a buffer keeps, the oldest first
-unfoldable pub messages_of : Buffer → List Message
-messages_of b = take b.count b.kept
+abbrev pub messages_of : Buffer → List Message
+messages_of b = items_of 16 b.list
 
-unfoldable pub empty_of : Buffer
-empty_of = record { kept = replicate 16 zeros; count = 0 }
+abbrev pub empty_of : Buffer
+empty_of = record { list = filled_of 16 zeros [] }
 
 -- one of NP places is left, and NP is at most 16
 abbrev pub room_of : Buffer → ℕ → Bool
-room_of b places = ltb b.count (min places 16)
+room_of b places = ltb b.list.count (min places 16)
 
 -- the message at the first free place
 abbrev pub behind_of : Buffer → Message → Buffer
-behind_of b m = record { kept = set b.kept b.count m; count = b.count + 1 }
+behind_of b m = record { list = pushed_of 16 b.list m }
 
 -- a buffer with the message behind the others, if one of the places is left
 unfoldable pub put_of : Buffer → ℕ → Message → Option Buffer
@@ -36,4 +37,4 @@ shifted_of kept = drop 1 kept ++ (zeros ∷ [])
 
 -- a buffer without its oldest message
 unfoldable pub rest_of : Buffer → Buffer
-rest_of b = pick (eqb b.count 0) b (record { kept = shifted_of b.kept; count = b.count - 1 })
+rest_of b = pick (eqb b.list.count 0) b (record { list = record { items = shifted_of b.list.items; count = b.list.count - 1 } })

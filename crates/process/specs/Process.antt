@@ -12,8 +12,8 @@ use Rattle.process.specs.declared.marking.Marks.{Marks}
 use Rattle.process.specs.declared.Process.{Process}
 use Rattle.process.specs.declared.Condition.{Condition}
 use Rattle.process.specs.declared.Condition.TheVariants.{Always, Waiting}
+use Rattle.process.specs.declared.Fate.{Fate}
 use Rattle.process.specs.declared.Fate.TheVariants.{Handed, Stored, NotWaiting, Full}
-use Rattle.process.specs.declared.Delivery.{Delivery}
 use Rattle.process.specs.declared.Taken.{Taken}
 use Rattle.process.specs.declared.Target.{Target}
 use Rattle.process.specs.declared.Target.TheVariants.{All, Level, Unknown}
@@ -48,6 +48,14 @@ overflow_marked_of p = process_of p.state p.priority (marks_of true p.marks.time
 -- "sets the receiver's time mark"
 abbrev pub time_marked_of : Process → Process
 time_marked_of p = process_of p.state p.priority (marks_of p.marks.overflow true) p.buffer
+
+-- a message at a process: what became of it, and the process afterwards
+pub record Delivery : Type 0 where
+  pub fate : Fate
+  pub process : Process
+
+abbrev pub delivery : Fate → Process → Delivery
+delivery fate p = record { fate = fate; process = p }
 
 -- "handed to it at once and wakes it", and "with each message handed over, also at a wake, one mark is told and cleared"
 unfoldable pub handed_of : Process → State → Delivery

@@ -1,6 +1,8 @@
 // Messages, and the buffer in which they wait for their receiver: first in, first out.
-ghost use Rattle.std.specs.Prelude.{◌≡◌};
+ghost use Rattle.std.specs.Prelude.{◌≡◌, Some, None, MatchResult};
 ghost use Rattle.process.specs.Messages.{empty_of, put_of, oldest_of, shifted_of, rest_of};
+
+use common::filled::Filled;
 
 // The most places that a configuration gives a process.
 pub const MOST_PLACES: usize = 16;
@@ -10,12 +12,11 @@ pub struct Message {
     pub bytes: [u8; 16],
 }
 
-// The oldest message lies at place 0, and `count` says how many are kept. What lies past them makes no difference.
+// The messages that are kept, the oldest at place 0. What lies past them makes no difference.
 // Places and a count, as memory is fixed: there is no heap, and a record is copied whole.
 #[derive(Clone, Copy)]
 pub struct Buffer {
-    pub kept: [Message; 16],
-    pub count: usize,
+    pub list: Filled<Message, 16>,
 }
 
 impl Message {
@@ -36,31 +37,30 @@ impl Buffer {
         ensures { result ≡ empty_of }
     {
         Buffer {
-            kept: [Message::ZEROS; 16],
-            count: 0,
+            list: Filled::empty(Message::ZEROS),
         }
     }
 
-    // With the message behind those that are kept, if one of so many places is left.
-    pub fn put(mut self, places: usize, message: Message) -> Option<Buffer>
-        ensures { result ≡ put_of self places message }
+    // The message behind those that are kept, if one of so many places is left; else it comes back.
+    pub fn put(&mut self, places: usize, message: Message) -> Result<(), Message>
+        ensures { MatchResult result (λ _. put_of self.old places message ≡ Some self.new)
+            (λ back. (put_of self.old places message ≡ None) × (self.new ≡ self.old) × (back ≡ message)) }
     {
-        if self.count >= places.min(MOST_PLACES) {
-            return None;
+        if self.list.count >= places.min(MOST_PLACES) {
+            return Err(message);
         }
-        self.kept[self.count] = message;
-        self.count += 1;
-        Some(self)
+        self.list.put(message);
+        Ok(())
     }
 
     // The oldest message, or sixteen zeros of an empty buffer.
     pub fn oldest(self) -> Message
         ensures { result ≡ oldest_of self }
     {
-        if self.count == 0 {
+        if self.list.count == 0 {
             Message::ZEROS
         } else {
-            self.kept[0]
+            self.list.items[0]
         }
     }
 
@@ -68,12 +68,14 @@ impl Buffer {
     pub fn rest(self) -> Buffer
         ensures { result ≡ rest_of self }
     {
-        if self.count == 0 {
+        if self.list.count == 0 {
             return self;
         }
         Buffer {
-            kept: shifted(self.kept),
-            count: self.count - 1,
+            list: Filled {
+                items: shifted(self.list.items),
+                count: self.list.count - 1,
+            },
         }
     }
 }

@@ -2,7 +2,7 @@
 #![tactic(auto)]
 
 ghost use Rattle.std.specs.Prelude.{◌≡◌};
-ghost use Rattle.process.specs.Process.{fresh_of, moved_of, with_priority_of, cleared_of, overflow_marked_of, time_marked_of, handed_of, stored_of, deliver_of, taken_of, is_known};
+ghost use Rattle.process.specs.Process.{fresh_of, moved_of, with_priority_of, cleared_of, overflow_marked_of, time_marked_of, delivery, handed_of, stored_of, deliver_of, taken_of, is_known};
 
 pub mod buffers;
 pub mod marking;
@@ -20,7 +20,8 @@ pub struct Process {
     pub buffer: Buffer,
 }
 
-// Whom a call names: all, one level, or nobody there is.
+// Whom a call names: all, one level, or nobody there is. No Option: `Orders::cancel` is handed what a call names, known or not, and answers an unknown
+// sender and an unknown receiver apart (`cancel_of`), and `is_known` is promised of all three (the edit `nobody_is_known`).
 #[derive(Clone, Copy)]
 pub enum Target {
     All,
@@ -45,12 +46,6 @@ pub enum Fate {
     NotWaiting,
     // The buffer has no place left.
     Full,
-}
-
-#[derive(Drop)]
-pub struct Delivery {
-    pub fate: Fate,
-    pub process: Process,
 }
 
 // The oldest message, as its process has taken it.
@@ -116,35 +111,30 @@ impl Process {
         self
     }
 
-    // Marked because its full buffer lost a message that was sent.
-    pub fn overflow_marked(mut self) -> Process
-        ensures { result ≡ overflow_marked_of self }
+    // Marked because its full buffer lost a message that was sent. (Two functions: what differs is a field, and no parameter names a field.)
+    pub fn mark_overflow(&mut self)
+        ensures { self.new ≡ overflow_marked_of self.old }
     {
         self.marks.overflow = true;
-        self
     }
 
     // Marked because a timer order's message did not reach it.
-    pub fn time_marked(mut self) -> Process
-        ensures { result ≡ time_marked_of self }
+    pub fn mark_time(&mut self)
+        ensures { self.new ≡ time_marked_of self.old }
     {
         self.marks.time = true;
-        self
     }
 
     // A message on its way to this process, whether it was sent or a timer order's: handed over at once if the process
     // waits for one, else kept in one of so many places. Marks for a message that is lost are the sender's matter.
-    pub fn deliver(self, condition: Condition, places: usize, message: Message) -> Delivery
-        ensures { result ≡ deliver_of self condition places message }
+    pub fn deliver(&mut self, condition: Condition, places: usize, message: Message) -> Fate
+        ensures { delivery result self.new ≡ deliver_of self.old condition places message }
     {
         match self.state.next(Cause::Message) {
-            Some(state) => self.handed(state),
+            Some(state) => self.hand(state),
             None => match condition {
-                Condition::Always => self.stored(places, message),
-                Condition::Waiting => Delivery {
-                    fate: Fate::NotWaiting,
-                    process: self,
-                },
+                Condition::Always => self.store(places, message),
+                Condition::Waiting => Fate::NotWaiting,
             },
         }
     }
@@ -166,32 +156,22 @@ impl Process {
     }
 
     // Woken by a message, and told one of its marks.
-    fn handed(self, state: State) -> Delivery
-        ensures { result ≡ handed_of self state }
+    fn hand(&mut self, state: State) -> Fate
+        ensures { delivery result self.new ≡ handed_of self.old state }
     {
         let Telling { told, marks } = self.marks.tell();
-        Delivery {
-            fate: Fate::Handed(told),
-            process: Process {
-                state,
-                marks,
-                ..self
-            },
-        }
+        self.state = state;
+        self.marks = marks;
+        Fate::Handed(told)
     }
 
-    fn stored(self, places: usize, message: Message) -> Delivery
-        ensures { result ≡ stored_of self places message }
+    // Kept, if one of so many places is left.
+    fn store(&mut self, places: usize, message: Message) -> Fate
+        ensures { delivery result self.new ≡ stored_of self.old places message }
     {
         match self.buffer.put(places, message) {
-            Some(buffer) => Delivery {
-                fate: Fate::Stored,
-                process: Process { buffer, ..self },
-            },
-            None => Delivery {
-                fate: Fate::Full,
-                process: self,
-            },
+            Ok(()) => Fate::Stored,
+            Err(_) => Fate::Full,
         }
     }
 }

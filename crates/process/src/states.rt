@@ -1,6 +1,6 @@
 // The five states, the seven causes, and where each cause leads from each state.
 ghost use Rattle.std.specs.Prelude.{◌≡◌};
-ghost use Rattle.process.specs.States.{next_of, row_of, column_of};
+ghost use Rattle.process.specs.States.{next_of};
 
 // Document 01's INACT, READY, WM, WE and WR.
 #[derive(Clone, Copy, PartialEq, Eq)]
@@ -44,24 +44,10 @@ const MOVES: [[Option<State>; 7]; 5] = [
 ];
 
 impl State {
-    fn row(self) -> usize
-        ensures { result ≡ row_of self }
-    {
-        self as usize
-    }
-
     // The state that the cause leads to, if it leads anywhere.
     pub fn next(self, cause: Cause) -> Option<State>
         ensures { result ≡ next_of self cause }
     {
-        MOVES[self.row()][cause.column()]
-    }
-}
-
-impl Cause {
-    fn column(self) -> usize
-        ensures { result ≡ column_of self }
-    {
-        self as usize
+        MOVES[self as usize][cause as usize]
     }
 }

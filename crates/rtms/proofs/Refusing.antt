@@ -37,19 +37,18 @@ use Rattle.table.specs.declared.configs.Privileged.{Privileged}
 use Rattle.table.specs.declared.Outcome.{Outcome}
 use Rattle.table.specs.declared.Table.{Table}
 use Rattle.table.specs.declared.wakes.Wake.{Wake}
-use Rattle.table.specs.Answers.{number_of, refusal_of}
+use Rattle.table.specs.Answers.{number_of, refusal_of, told_as, cancel_answer}
 use Rattle.table.specs.Configuration.{receiver_of, sender_of, privilege_of, owner_of}
 use Rattle.table.specs.Sound.{sound_of}
 use Rattle.table.specs.Words.{minus_one}
 use Rattle.calls.specs.Effects.{Carried, Effect, refuse, refuse_telling, waking, carrying, message}
 use Rattle.calls.specs.Levels.{process_of, with_processes}
-use Rattle.calls.specs.Outcomes.{told_as}
 use Rattle.calls.specs.Verdicts.{Checked, check, also_of, after, obeyed, by_caller}
 use Rattle.posting.specs.Posting.{Posted}
 use Rattle.starting.specs.Starting.{start_of, set_priority_of}
 use Rattle.messages.specs.Sending.{send_posted, sent_by, sent_of, send_of}
 use Rattle.messages.specs.Receiving.{taking_of, receive_of, await_message_of, clear_message_of}
-use Rattle.timers.specs.Timers.{cancel_answer, ordered, schedule_of, cancelled_of, cancel_schedule_of, shutdown_of, start_scheduler_of, read_time_of}
+use Rattle.timers.specs.Timers.{ordered, schedule_of, cancelled_of, cancel_schedule_of, shutdown_of, start_scheduler_of, read_time_of}
 use Rattle.timers.proofs.Cancels.{by_cancel, by_entry}
 use Rattle.interrupts.specs.Interrupts.{enable_of, disable_of, came_of, open_of, awaiting_of, awaiting_by, await_interrupt_of, reset_interrupt_of, opened_of, opened_by, latched_of, event_of}
 use Rattle.holding.specs.Holding.{requested_by, requested_of, request_of, released_of, released_all_of, release_of}
@@ -240,7 +239,7 @@ kind_of (SEND from receiver Always m) t = kind_always t from receiver m _ (sorte
 kind_of (SEND from receiver Waiting m) t = sorted (sorted_waiting t from receiver m)
 kind_of (RECEIVE from) t = sorted (sorted_obeyed _ t _ (more _ _ _ (caller _ _) refl) (sorted_taking t from))
 kind_of (AWAITMESSAGE from) t =
-    sorted (sorted_obeyed _ t _ (caller _ _) (sorted_pick (eqb (process_of t from).buffer.count 0) t _ _ (sorted_suspended t _ _ _) (sorted_taking t from)))
+    sorted (sorted_obeyed _ t _ (caller _ _) (sorted_pick (eqb (process_of t from).buffer.list.count 0) t _ _ (sorted_suspended t _ _ _) (sorted_taking t from)))
 kind_of (CLEARMESSAGE from receiver) t = sorted (sorted_obeyed _ t _ (more _ _ _ (caller _ _) refl) (sorted_ok t _ _ _))
 kind_of (SCHEDULE from new) t = sorted (sorted_obeyed _ t _ (more _ _ _ (more _ _ _ (more _ _ _ (more _ _ _ (caller _ _) refl) refl) refl) refl) (sorted_ordered t _))
 kind_of (CANCELSCHEDULE from sender receiver) t = sorted (sorted_obeyed _ t _ (caller _ _) (sorted_cancel t sender receiver))

@@ -10,6 +10,7 @@ use lib.ListN.{length, take, length-map}
 use Rattle.std.specs.Prelude.{Ok, Err}
 use Rattle.std.specs.Prelude.{Option, Some, None}
 use Rattle.common.specs.Choice.{pick}
+use Rattle.common.specs.Filled.{filled_of}
 use Rattle.common.specs.Stands.{stands_in, Once}
 use Rattle.common.proofs.Cases.{by_pick}
 use Rattle.common.proofs.Packing.{take_packed}
@@ -188,7 +189,7 @@ fine_of (SETPRIORITY caller priority) t sound = fine_obeyed _ t _ (fine_none t _
 fine_of (SEND caller receiver condition m) t sound = fine_obeyed _ t _ (fine_send t (receiver_of t.config receiver) condition m)
 fine_of (RECEIVE caller) t sound = fine_obeyed _ t _ (fine_taking t caller)
 fine_of (AWAITMESSAGE caller) t sound =
-    fine_obeyed _ t _ (by_pick (Fine t) (eqb (process_of t caller).buffer.count 0) _ _ (fine_none t _ _ _) (fine_taking t caller))
+    fine_obeyed _ t _ (by_pick (Fine t) (eqb (process_of t caller).buffer.list.count 0) _ _ (fine_none t _ _ _) (fine_taking t caller))
 fine_of (CLEARMESSAGE caller receiver) t sound = fine_obeyed _ t _ (fine_none t _ _ _)
 fine_of (SCHEDULE caller new) t sound = fine_obeyed _ t _ (fine_ordered t _)
 fine_of (CANCELSCHEDULE caller sender receiver) t sound = fine_obeyed _ t _ (fine_cancel t sender receiver)
@@ -232,11 +233,11 @@ unfolding Fine
 wakes_fit call t = (fine_done call t).1
 
 -- wakes that fit are found again in their places
-taken_again : (l : List Wake) → length l ≤ 12 → take (wakes_of l).count (wakes_of l).wakes ≡ l
-unfolding wakes_of
+taken_again : (l : List Wake) → length l ≤ 12 → take (wakes_of l).count (wakes_of l).items ≡ l
+unfolding filled_of
 taken_again l fits = let all : min (length l) 12 ≡ length l = omega arith in rw all (take_packed nobody 12 l fits)
 
 -- and the array of twelve wakes never drops one: all that a call wakes stand in its result, in order
-pub none_dropped : (call : Call) (t : Table) → length t.processes ≡ 12 → take (answer_of call t).wakes.count (answer_of call t).wakes.wakes ≡ (done_by call t).wakes
+pub none_dropped : (call : Call) (t : Table) → length t.processes ≡ 12 → take (answer_of call t).wakes.count (answer_of call t).wakes.items ≡ (done_by call t).wakes
 unfolding answer_of outcome_of
 none_dropped call t twelve = taken_again (done_by call t).wakes (wakes_fit call t twelve)

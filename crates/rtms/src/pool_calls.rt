@@ -7,6 +7,7 @@ ghost use Rattle.rtms.specs.Calls.{answer_of, INITPOOL, POOLCHECK, GETPOOL, PUTP
 ghost use Rattle.rtms.specs.Pools.{lent_answer, pooled_by};
 
 use crate::guard::guarded;
+use pooling::Part;
 use table::answers::Answer;
 use table::{Outcome, Table, soundness};
 
@@ -32,7 +33,8 @@ fn lent(table: Table, bytes: usize) -> bool
     soundness::sound(table) & (size <= bytes)
 }
 
-// The part of the pool into the caller's buffer. Refused, the buffer is untouched; the pool always keeps its bytes.
+// The part of the pool into the caller's buffer. Refused, the buffer is untouched; the pool always keeps its bytes. Offset and count are two parameters, as
+// those of every host's call are: a `Part` would change what hosts call, and the promise names them so (`GETPOOL caller offset count`).
 pub fn get_pool(
     table: Table,
     pool: &[u8],
@@ -44,7 +46,7 @@ pub fn get_pool(
     ensures { (result ≡ lent_answer (GETPOOL caller offset count (length buffer.old)) table pool.now) × (buffer.new ≡ buffer_by result.answer pool.now offset buffer.old) }
 {
     if lent(table, pool.len()) {
-        pooling::get_pool(table, pool, caller, offset, count, buffer)
+        pooling::get_pool(table, pool, caller, Part { offset, count }, buffer)
     } else {
         table.refused(Answer::BadConfig)
     }
@@ -62,7 +64,7 @@ pub fn put_pool(
     ensures { (result ≡ lent_answer (PUTPOOL caller offset count given.now) table pool.old) × (pool.new ≡ pooled_by (PUTPOOL caller offset count given.now) result.answer pool.old) }
 {
     if lent(table, pool.len()) {
-        pooling::put_pool(table, pool, caller, offset, count, given)
+        pooling::put_pool(table, pool, caller, Part { offset, count }, given)
     } else {
         table.refused(Answer::BadConfig)
     }

@@ -6,7 +6,8 @@ ghost use Rattle.std.specs.Prelude.{◌≤◌, IfOk, length};
 use std::io;
 use std::io::Read;
 
-// The input to its end, or until the buffer is full: how long it is.
+// The input to its end, or until the buffer is full: how long it is. (A loop, since how many turns it takes the reader alone knows, and what std has to
+// read to the end fills a Vec: there is no heap.)
 fn read_all<R: Read>(reader: &mut R, input: &mut [u8]) -> io::Result<usize>
     requires { length input.old ≤ 65521 }
     ensures { IfOk result (λ read. read ≤ length input.new) }

@@ -30,7 +30,7 @@ use Rattle.table.specs.Configuration.{receiver_of, privilege_of, owner_of}
 use Rattle.table.specs.Words.{minus_one}
 use Rattle.calls.specs.Effects.{Effect, message, carrying}
 use Rattle.calls.specs.Levels.{process_of}
-use Rattle.calls.specs.Outcomes.{told_as}
+use Rattle.table.specs.Answers.{told_as}
 use Rattle.calls.specs.Verdicts.{Checked, check, after, obeyed, by_caller}
 use Rattle.starting.specs.Starting.{start_of, set_priority_of}
 use Rattle.posting.specs.Posting.{Posted}
@@ -146,7 +146,7 @@ kind_of (SEND caller receiver condition m) t =
     (mild_sent t condition (send_posted t.config (receiver_of t.config receiver) condition m t.processes))) refl refl
 kind_of (RECEIVE caller) t = calmly (mild_obeyed t _ _ (avoids_more 35 _ _ _ (own t caller) refl) (mild_taking t caller)) refl refl
 kind_of (AWAITMESSAGE caller) t =
-    calmly (mild_obeyed t _ _ (own t caller) (by_pick (Mild t) (eqb (process_of t caller).buffer.count 0) _ _ (mild t _ refl refl) (mild_taking t caller))) refl refl
+    calmly (mild_obeyed t _ _ (own t caller) (by_pick (Mild t) (eqb (process_of t caller).buffer.list.count 0) _ _ (mild t _ refl refl) (mild_taking t caller))) refl refl
 kind_of (CLEARMESSAGE caller receiver) t = calmly (mild_obeyed t _ _ (avoids_more 35 _ _ _ (own t caller) refl) (mild t _ refl refl)) refl refl
 kind_of (SCHEDULE caller new) t = schedule caller new
 kind_of (CANCELSCHEDULE caller sender receiver) t = cancel caller sender receiver

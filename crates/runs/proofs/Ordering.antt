@@ -10,6 +10,7 @@ use borrow.Author.Tests.{eqb-true, eq-eqb, ltb-true}
 use Rattle.std.specs.Prelude.{Result}
 use Rattle.common.specs.Choice.{pick}
 use Rattle.common.proofs.Cases.{by_test, by_pick, never_both, both_true}
+use Rattle.common.proofs.Filling.{standing_push}
 use Rattle.day.specs.TimeOfDay.{forward_of}
 use Rattle.orders.specs.declared.NotCancelled.{NotCancelled}
 use Rattle.orders.specs.declared.Order.{Order}
@@ -17,7 +18,7 @@ use Rattle.orders.specs.declared.Orders.{Orders}
 use Rattle.orders.specs.Cancel.{is_from, matches_of, how_many_of, removed_of, cancel_of}
 use Rattle.orders.specs.Orders.{accept_of}
 use Rattle.orders.specs.Timer.{timed, Step, ticks, accepts, cancels, stays_after, after_of as steps_after, ticks_of as ticks_among, Spared}
-use Rattle.orders.proofs.Tables.{standing_advance, standing_without, standing_push}
+use Rattle.orders.proofs.Tables.{standing_advance, standing_without}
 use Rattle.process.specs.declared.Target.{Target}
 use Rattle.process.specs.declared.Target.TheVariants.{All, Level, Unknown}
 use Rattle.table.specs.declared.answers.Answer.{Answer}
@@ -60,9 +61,9 @@ module _ (step : Step) (t : Table) where
 ordered_does : (t : Table) (x : Order) → Steady t → Does (accepts x) t (ordered t x)
 unfolding Does ordered accept_of
 ordered_does t x steady =
-    by_test (ltb t.orders.count (min t.config.orders 64))
-    (λ free. let room : t.orders.count < min t.config.orders 64 = ltb-true _ _ free in
-    rw free (ap (timed t.clock) (standing_push t.orders 64 x steady.places (omega arith))))
+    by_test (ltb t.orders.list.count (min t.config.orders 64))
+    (λ free. let room : t.orders.list.count < min t.config.orders 64 = ltb-true _ _ free in
+    rw free (ap (timed t.clock) (standing_push 64 t.orders.list x steady.places (omega arith))))
     (λ full. rw full)
 
 -- SCHEDULE enters the order where it is answered 0
@@ -79,7 +80,7 @@ removed_does : (sender : Target) (receiver : ℕ) (t : Table) → Does (cancels 
 unfolding Does removed_of
 removed_does sender receiver t =
     let does : Result Orders NotCancelled → Type 0 = (λ c. Does (cancels sender receiver) t (cancelling c t)) in
-    by_pick does (eqb t.orders.count 0) _ _ refl
+    by_pick does (eqb t.orders.list.count 0) _ _ refl
     (by_pick does (eqb (how_many_of All receiver t.orders) 0) _ _ refl
     (by_pick does (eqb (how_many_of sender receiver t.orders) 0) _ _ refl (ap (timed t.clock) (standing_without sender receiver t.orders))))
 

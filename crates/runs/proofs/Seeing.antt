@@ -1,5 +1,5 @@
 -- How a step changes one semaphore and what is seen of it. Assumes nothing.
-use mathlib.Core.Path.{◌≡◌, ◌∙◌, refl, sym}
+use mathlib.Core.Path.{◌≡◌, ◌∙◌, refl, sym, ap}
 use mathlib.Core.Bool.{Bool, true, false, not, ◌&&◌, ◌||◌, and-false, or-true}
 use mathlib.Core.List.{List, [], ◌∷◌}
 use Prim.Native.Nat.{ℕ, ◌<◌}
@@ -211,7 +211,7 @@ module _ (number : ℕ) (usable : usable_of number ≡ true) (s : Semaphores) (o
       (λ holds. rw (act-is, answer-is ∙ held_number s caller given holds, handed-is ∙ release_wakes s caller given holds, then_is)
       (given_turned number s orderly caller (requester_level s caller may) given single holds))
       (λ fails. let not_0 : eqb answer 0 ≡ false = rw answer-is (not_held_number s caller given fails) in
-      quiet (handed-is ∙ release_wakes_none s caller given fails) (then_is ∙ release_not_held s caller given fails)
+      quiet (handed-is ∙ release_wakes_none s caller given fails) (then_is ∙ ap (after_release s) (release_not_held s caller given fails))
       (λ level. rw act-is (refl, refl))
       (λ level. rw not_0 (and-false (gives_back number level act)))
       (λ sight. refused_seen number act answer sight not_0))

@@ -3,8 +3,9 @@ use mathlib.Core.Path.{◌≡◌, sym, subst}
 use mathlib.Core.Bool.{true}
 use mathlib.Core.List.{List, [], ◌∷◌}
 use lib.ListN.{length, length-replicate}
+use Rattle.common.specs.Filled.{filled_of}
 use Rattle.common.proofs.Packing.{length_packed}
-use Rattle.orders.specs.Orders.{no_order, orders_of, none_of}
+use Rattle.orders.specs.Orders.{no_order}
 use Rattle.process.specs.Process.{fresh_of as fresh_process}
 use Rattle.semaphores.proofs.Orderly.{fresh_orderly}
 use Rattle.table.specs.declared.configs.Config.{Config}
@@ -27,7 +28,7 @@ use Rattle.runs.specs.Runs.{leaves, after_of, run_of}
 
 -- a fresh table of a good configuration stands so
 pub fresh_steady : (c : Config) → good_of c ≡ true → Steady (fresh_of c)
-unfolding fresh_of none_of orders_of
+unfolding fresh_of filled_of
 fresh_steady c good = record {
   processes = length-replicate 12 fresh_process;
   places = length_packed no_order 64 [];

@@ -172,7 +172,7 @@ still_of (SETPRIORITY caller priority) t none = still_obeyed _ t _ (still_none t
 still_of (SEND caller receiver condition m) t none = still_obeyed _ t _ (still_sent condition t (receiver_of t.config receiver) m)
 still_of (RECEIVE caller) t none = still_obeyed _ t _ (still_taking t caller)
 still_of (AWAITMESSAGE caller) t none =
-    still_obeyed _ t _ (by_pick (Still t) (eqb (process_of t caller).buffer.count 0) _ _ (still_none t _ _ _ refl) (still_taking t caller))
+    still_obeyed _ t _ (by_pick (Still t) (eqb (process_of t caller).buffer.list.count 0) _ _ (still_none t _ _ _ refl) (still_taking t caller))
 still_of (CLEARMESSAGE caller receiver) t none = still_obeyed _ t _ (still_none t _ _ _ refl)
 still_of (SCHEDULE caller new) t none = still_obeyed _ t _ (still_ordered t _)
 still_of (CANCELSCHEDULE caller sender receiver) t none = still_obeyed _ t _ (still_none t _ _ _ refl)

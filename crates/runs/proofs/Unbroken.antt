@@ -4,7 +4,6 @@ use mathlib.Core.List.{◌++◌}
 use Prim.Native.Nat.{ℕ, zero, suc, ◌+◌}
 use lib.ListN.{replicate}
 use borrow.Author.Tests.{eqb-false}
-use Rattle.common.proofs.Cases.{by_pick}
 use Rattle.orders.specs.declared.NotCancelled.{NotCancelled}
 use Rattle.orders.specs.declared.NotCancelled.TheVariants.{BadSender, UnknownReceiver, NoOrder, NotFound, NotTheirs}
 use Rattle.orders.specs.declared.Order.{Order}
@@ -17,7 +16,8 @@ use Rattle.calls.specs.Effects.{Effect, number_by, number}
 use Rattle.calls.specs.Levels.{process_of}
 use Rattle.calls.proofs.Keeping.{Steady}
 use Rattle.timers.specs.declared.NewOrder.{NewOrder}
-use Rattle.timers.specs.Timers.{ordered, schedule_of, cancel_answer, cancelled_of, cancel_schedule_of}
+use Rattle.timers.specs.Timers.{ordered, schedule_of, cancelled_of, cancel_schedule_of}
+use Rattle.table.specs.Answers.{cancel_answer}
 use Rattle.timers.proofs.Cancels.{by_cancel, by_entry}
 use Rattle.ticking.specs.Ticking.{tick_of, ticks_of}
 use Rattle.ticking.proofs.Keeping.{tick_keeps}

@@ -16,7 +16,7 @@ use Rattle.pool.specs.Control.{fresh_of as fresh_pool}
 use Rattle.process.specs.States.{next_of}
 use Rattle.process.specs.declared.Condition.TheVariants.{Always}
 use Rattle.process.specs.Marks.{tell_of}
-use Rattle.process.specs.Messages.{zeros, empty_of as empty_buffer, put_of}
+use Rattle.process.specs.Messages.{zeros, put_of}
 use Rattle.process.specs.Process.{moved_of, handed_of, stored_of, deliver_of}
 use Rattle.common.specs.Filled.{filled_of, items_of, pushed_of}
 use Rattle.semaphores.specs.Queues.{levels_for, without_first, leaving_of}
@@ -24,7 +24,7 @@ use Rattle.semaphores.specs.Semaphores.{usable_of, fresh_of as fresh_semaphores,
 use Rattle.orders.specs.Advance.{due_at, due_of, due_count_of, onward_of, lefts_of, advance_of}
 use Rattle.orders.specs.Cancel.{is_from, matches_of, how_many_of, without_of, removed_of, cancel_of}
 use Rattle.orders.specs.Moments.{interval_of, delay_of}
-use Rattle.orders.specs.Orders.{no_order, standing_of, orders_of, none_of, push_of as orders_push, accept_of}
+use Rattle.orders.specs.Orders.{no_order, standing_of, accept_of}
 use Rattle.orders.specs.Timer.{place, CarriedOut}
 use Rattle.table.specs.declared.answers.Answer.TheVariants.{NoSemaphoreNumber}
 use Rattle.table.specs.declared.configs.Config.{Config}
@@ -94,7 +94,7 @@ pub record ShowsTurns : Type 0 where
 
 -- it does
 pub shows_turns : ShowsTurns
-unfolding every_below keep_of packed_of stands_in bit_of word_of has_of set_of no_inputs except_of input_run rising_of members_of count_of next_of empty_buffer moved_of items_of filled_of usable_of fresh_semaphores standing_of orders_of none_of configured_of inputs_of good_of times_of level_sound levels_sound order_sound orders_sound holder_sound holders_sound waiter_sound queue_sound on_card lengths_sound pool_sound sound_of fresh_pool fresh_of process_at also_of obeyed start_of guarded_of after_of pushed_of levels_for without_first leaving_of holder_of waiters_of requests_of holds_of releases_of requested_of request_of released_of release_of seen_of act_of handed_levels sight_after sight_of releases_seen
+unfolding every_below keep_of packed_of stands_in bit_of word_of has_of set_of no_inputs except_of input_run rising_of members_of count_of next_of moved_of items_of filled_of usable_of fresh_semaphores configured_of inputs_of good_of times_of level_sound levels_sound order_sound orders_sound holder_sound holders_sound waiter_sound queue_sound on_card lengths_sound pool_sound sound_of fresh_pool fresh_of process_at also_of obeyed start_of guarded_of after_of pushed_of levels_for without_first leaving_of holder_of waiters_of requests_of holds_of releases_of requested_of request_of released_of release_of seen_of act_of handed_levels sight_after sight_of releases_seen
 shows_turns = record {
   begins = record { good = refl; answered_32 = refl; k_1_before = refl };
   holds = refl;
@@ -120,7 +120,7 @@ pub record ShowsTold : Type 0 where
 
 -- it does
 pub shows_told : ShowsTold
-unfolding every_below keep_of packed_of stands_in bit_of word_of has_of set_of no_inputs except_of input_run rising_of members_of count_of next_of empty_buffer moved_of items_of filled_of usable_of fresh_semaphores standing_of orders_of none_of configured_of inputs_of good_of times_of level_sound levels_sound order_sound orders_sound holder_sound holders_sound waiter_sound queue_sound on_card lengths_sound pool_sound sound_of fresh_pool fresh_of process_at also_of obeyed start_of guarded_of after_of pushed_of levels_for without_first leaving_of holder_of waiters_of requests_of holds_of not_held_of releases_of requested_of request_of released_of release_of seen_of act_of handed_levels sight_after sight_of
+unfolding every_below keep_of packed_of stands_in bit_of word_of has_of set_of no_inputs except_of input_run rising_of members_of count_of next_of moved_of items_of filled_of usable_of fresh_semaphores configured_of inputs_of good_of times_of level_sound levels_sound order_sound orders_sound holder_sound holders_sound waiter_sound queue_sound on_card lengths_sound pool_sound sound_of fresh_pool fresh_of process_at also_of obeyed start_of guarded_of after_of pushed_of levels_for without_first leaving_of holder_of waiters_of requests_of holds_of not_held_of releases_of requested_of request_of released_of release_of seen_of act_of handed_levels sight_after sight_of
 shows_told = record { waiting = refl; another = refl; holds = refl; nobody = refl; unusable = refl }
 
 -- ---- a timer order that is accepted and left to the clock
@@ -171,7 +171,7 @@ pub record ShowsOrders : Type 0 where
 
 -- it does
 pub shows_orders : ShowsOrders
-unfolding deed_of every_below keep_of packed_of stands_in bit_of word_of has_of set_of no_inputs except_of input_run rising_of members_of count_of next_of empty_buffer moved_of items_of filled_of usable_of fresh_semaphores standing_of orders_of none_of configured_of inputs_of good_of times_of level_sound levels_sound order_sound orders_sound holder_sound holders_sound waiter_sound queue_sound on_card lengths_sound pool_sound sound_of fresh_pool fresh_of process_at also_of obeyed start_of guarded_of after_of forward_of until_of made_of interval_of delay_of moment_of orders_push accept_of is_from matches_of how_many_of without_of removed_of cancel_of receiver_of sender_of put_of stored_of handed_of deliver_of tell_of marked_by one_of all_of due_of due_count_of onward_of lefts_of advance_of ordered schedule_of cancelled_of cancel_schedule_of start_scheduler_of carried_out carrying_out tick_at tick_of ticks_of Undisturbed Lets is_for ticks_in ticks_by followed_on order_steps
+unfolding deed_of every_below keep_of packed_of stands_in bit_of word_of has_of set_of no_inputs except_of input_run rising_of members_of count_of next_of moved_of items_of filled_of pushed_of usable_of fresh_semaphores configured_of inputs_of good_of times_of level_sound levels_sound order_sound orders_sound holder_sound holders_sound waiter_sound queue_sound on_card lengths_sound pool_sound sound_of fresh_pool fresh_of process_at also_of obeyed start_of guarded_of after_of forward_of until_of made_of interval_of delay_of moment_of accept_of is_from matches_of how_many_of without_of removed_of cancel_of receiver_of sender_of put_of stored_of handed_of deliver_of tell_of marked_by one_of all_of due_of due_count_of onward_of lefts_of advance_of ordered schedule_of cancelled_of cancel_schedule_of start_scheduler_of carried_out carrying_out tick_at tick_of ticks_of Undisturbed Lets is_for ticks_in ticks_by followed_on order_steps
 shows_orders = record {
   running = record { running = refl; no_switch = refl };
   one = refl;
@@ -210,5 +210,5 @@ pub record ShowsStops : Type 0 where
 
 -- they do
 pub shows_stops : ShowsStops
-unfolding every_below keep_of packed_of stands_in bit_of word_of has_of set_of no_inputs except_of input_run rising_of members_of count_of next_of empty_buffer moved_of items_of filled_of usable_of fresh_semaphores standing_of orders_of none_of configured_of inputs_of good_of times_of level_sound levels_sound order_sound orders_sound holder_sound holders_sound waiter_sound queue_sound on_card lengths_sound pool_sound sound_of fresh_pool fresh_of process_at also_of obeyed start_of guarded_of after_of forward_of interval_of delay_of moment_of orders_push accept_of ordered schedule_of start_scheduler_of shutdown_of stopping passing tick_at tick_of ticks_of
+unfolding every_below keep_of packed_of stands_in bit_of word_of has_of set_of no_inputs except_of input_run rising_of members_of count_of next_of moved_of items_of filled_of pushed_of usable_of fresh_semaphores configured_of inputs_of good_of times_of level_sound levels_sound order_sound orders_sound holder_sound holders_sound waiter_sound queue_sound on_card lengths_sound pool_sound sound_of fresh_pool fresh_of process_at also_of obeyed start_of guarded_of after_of forward_of interval_of delay_of moment_of accept_of ordered schedule_of start_scheduler_of shutdown_of stopping passing tick_at tick_of ticks_of
 shows_stops = record { stops = refl; stopped = refl; due = refl; one = refl; passed = refl }

@@ -19,7 +19,7 @@ use Rattle.semaphores.specs.declared.Unusable.{Unusable}
 use Rattle.semaphores.specs.declared.Request.{Request}
 use Rattle.semaphores.specs.declared.Requested.TheVariants.{Held, Waits}
 use Rattle.semaphores.specs.Queues.{nobody, list_of, queued, push_of, without_first, leaving_as, leaving_of, levels_for}
-use Rattle.semaphores.specs.Semaphores.{after_release, usable_of, free, semaphores_of, holder_of, waiters_of, held_by, waiter, request_of, handed_on, holds_of, release_of}
+use Rattle.semaphores.specs.Semaphores.{after_release, usable_of, free, semaphores_of, holder_of, waiters_of, held_by, waiter, request_of, handed_on, holds_of, not_held_of, release_of}
 use Rattle.semaphores.specs.Turns.{Orderly}
 use Rattle.semaphores.proofs.Waiting.{list_short, list_queued, part_without, levels_without, levels_other, without_none}
 
@@ -72,8 +72,8 @@ pub release_held : (s : Semaphores) (level number : ℕ) → Orderly s → holds
 unfolding release_of leaving_of waiters_of
 release_held s level number orderly holds = rw holds (handed_passed s number orderly (levels_for number (list_of s.queue)) refl)
 
--- and where it does not, nothing changes
-pub release_not_held : (s : Semaphores) (level number : ℕ) → holds_of s level number ≡ false → after_release s (release_of s level number) ≡ s
+-- and where it does not, it is refused: there are no other semaphores
+pub release_not_held : (s : Semaphores) (level number : ℕ) → holds_of s level number ≡ false → release_of s level number ≡ Err (not_held_of s number)
 unfolding release_of
 release_not_held s level number holds = rw holds
 

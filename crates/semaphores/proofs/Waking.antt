@@ -33,8 +33,7 @@ release_wakes s level number holds = rw holds (handed_wakes s number (levels_for
 
 -- who does not hold it wakes nobody, whyever it is refused
 pub release_wakes_none : (s : Semaphores) (level number : ℕ) → holds_of s level number ≡ false → woken_of (released_in (release_of s level number)) ≡ []
-unfolding release_of
-release_wakes_none s level number holds = rw holds
+release_wakes_none s level number fails = rw (release_not_held s level number fails)
 
 -- who wakes has left the queue
 first_leaves : (number : ℕ) (l : List Waiter) → length (take 1 (levels_for number l)) + length (without_first number l) ≤ length l

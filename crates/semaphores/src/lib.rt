@@ -2,13 +2,14 @@
 #![tactic(auto)]
 
 ghost use Rattle.std.specs.Prelude.{◌≡◌};
-ghost use Rattle.semaphores.specs.Semaphores.{requested_in, released_in, requested_number, released_number, usable_of, checked_of, fresh_of, request_of, holds_of, release_of, also_of, release_all_of};
+ghost use Rattle.semaphores.specs.Semaphores.{requested_number, released_number, usable_of, checked_of, fresh_of, request_of, holds_of, release_of, also_of, release_all_of};
 
 pub mod queues;
 
 use queues::{Levels, Queue, Waiter};
 
-// Stands for a holder where there is none. No Option: document 02 answers 255 for a free semaphore, and the definitions (`free`) read it so.
+// Stands for a holder where there is none. No Option: a release that is refused tells the holder's place as it is, and `ToldAsSeen` (runs/specs/Sight)
+// says that it is `free`, 255, where nobody holds it; the edits `a_held_semaphore_told_as_free` and `all_of_nobody` hold that in this code.
 pub const FREE: u8 = 255;
 
 #[derive(Clone, Copy)]
@@ -68,23 +69,21 @@ impl From<Unusable> for NotReleased {
 }
 
 // The answer number of REQSEMA.
-pub fn request_number(request: &Result<Request, Unusable>) -> u8
-    ensures { result ≡ requested_number (requested_in request.now) }
+pub fn request_number(requested: Result<Requested, Unusable>) -> u8
+    ensures { result ≡ requested_number requested }
 {
-    match request {
+    match requested {
         Err(Unusable) => 6,
-        Ok(request) => match request.requested {
-            Requested::Held => 0,
-            Requested::Waits => 32,
-        },
+        Ok(Requested::Held) => 0,
+        Ok(Requested::Waits) => 32,
     }
 }
 
-// The answer number of RELSEMA.
-pub fn release_number(release: &Result<Release, NotReleased>) -> u8
-    ensures { result ≡ released_number (released_in release.now) }
+// The answer number of RELSEMA: to whom the semaphore was handed over makes no difference.
+pub fn release_number(released: Result<Option<u8>, NotReleased>) -> u8
+    ensures { result ≡ released_number released }
 {
-    match release {
+    match released {
         Err(NotReleased::Unusable) => 15,
         Err(NotReleased::NotHolder(_)) => 37,
         Ok(_) => 0,
@@ -147,10 +146,7 @@ impl Semaphores {
     pub fn holds(self, level: u8, number: u16) -> bool
         ensures { result ≡ holds_of self level number }
     {
-        match checked(number) {
-            Ok(number) => self.holders[usize::from(number)] == level,
-            Err(Unusable) => false,
-        }
+        usable(number) && self.holders[usize::from(number)] == level
     }
 
     // RELSEMA of one number: the first that waits for it holds it now, or it is free. Where it is refused, an unusable number goes first, then who

@@ -12,7 +12,6 @@ use Rattle.process.specs.States.{is_of}
 use Rattle.table.specs.declared.answers.Answer.{Answer}
 use Rattle.table.specs.declared.answers.Answer.TheVariants.{ParameterError, NotReady, Started}
 use Rattle.table.specs.declared.Table.{Table}
-use Rattle.table.specs.Wakes.{no_wakes_of}
 use Rattle.calls.specs.Decisions.{decided, told_of, decided_at}
 use Rattle.calls.specs.Effects.{nothing, done, outcome_of}
 use Rattle.calls.specs.Levels.{with_process}
@@ -22,7 +21,7 @@ use Rattle.starting.specs.Starting.{start_of, set_priority_of, started_of, prior
 
 -- 0, and another record at a level
 done_told : (t : Table) (level : ℕ) (p : Process) → decided_at t level (decided Answer.Ok nothing p) ≡ outcome_of (done (with_process t level p))
-unfolding told_of outcome_of no_wakes_of
+unfolding told_of outcome_of
 done_told t level p = refl
 
 module _ (t : Table) (level priority : ℕ) (other : Process) (whole : length t.processes ≡ 12) where

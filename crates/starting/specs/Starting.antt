@@ -41,10 +41,10 @@ set_priority_of t caller priority =
 
 -- ---- how the code comes to that: both change one record alone, and what they come to is decided on it
 
-unfoldable pub started_of : Config → Process → ℕ → ℕ → Decided
+unfoldable pub started_of : Config → Process → ℕ → ℕ → Decided Process
 started_of c p level priority =
     decided_by (after (Ok tt) (start_checks c p level priority)) p (decided Answer.Ok nothing (with_priority_of (moved_of p Start) priority))
 
-unfoldable pub prioritized_of : Config → Process → ℕ → ℕ → Decided
+unfoldable pub prioritized_of : Config → Process → ℕ → ℕ → Decided Process
 prioritized_of c p caller priority =
     decided_by (after (by_caller c p caller) (priority_checks priority)) p (decided Answer.Ok nothing (with_priority_of p priority))

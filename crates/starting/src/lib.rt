@@ -6,7 +6,7 @@ ghost use Rattle.calls.specs.Effects.{outcome_of};
 ghost use Rattle.calls.specs.Verdicts.{after, by_caller};
 ghost use Rattle.starting.specs.Starting.{start_of, set_priority_of, start_checks, started_of, priority_checks, prioritized_of};
 
-use calls::{Decided, check};
+use calls::{Caller, Decided, check};
 use process::Process;
 use process::states::{Cause, State};
 use table::answers::Answer;
@@ -17,6 +17,7 @@ use table::{Outcome, Table};
 pub const LAST_PRIORITY: u16 = 63;
 
 // The checks of START, on the record of the level.
+#[tactic(auto, using(process::proofs::Moves::same_state), unfolding(calls::specs::Verdicts::also_of))]
 fn start_checked(config: Config, process: Process, level: u16, priority: u16) -> Result<(), Answer>
     ensures { result ≡ after (Ok tt) (start_checks config process level priority) }
 {
@@ -26,16 +27,14 @@ fn start_checked(config: Config, process: Process, level: u16, priority: u16) ->
 }
 
 // START of a level with this record.
-pub fn started(config: Config, process: Process, level: u16, priority: u16) -> Decided
+pub fn started(config: Config, process: Process, level: u16, priority: u16) -> Decided<Process>
     ensures { result ≡ started_of config process level priority }
 {
-    match start_checked(config, process, level, priority) {
-        Err(answer) => Decided::alone(answer, process),
-        Ok(()) => {
-            let process = process.moved(Cause::Start).with_priority(priority as u8);
-            Decided::alone(Answer::Ok, process)
-        }
-    }
+    let checked = start_checked(config, process, level, priority);
+    calls::ruled(checked, &process, || {
+        let process = process.moved(Cause::Start).with_priority(priority as u8);
+        Decided::alone(Answer::Ok, process)
+    })
 }
 
 // The operator's START of a level with a priority.
@@ -48,32 +47,35 @@ pub fn start(table: Table, level: u16, priority: u16) -> Outcome
 }
 
 // The checks of SETPRIORITY, on the record of the caller.
-fn priority_checked(
-    config: Config,
-    process: Process,
-    caller: u8,
-    priority: u16,
-) -> Result<(), Answer>
-    ensures { result ≡ after (by_caller config process caller) (priority_checks priority) }
+#[tactic(auto, unfolding(calls::specs::Verdicts::also_of))]
+fn priority_checked(caller: &Caller, priority: u16) -> Result<(), Answer>
+    ensures { result ≡ after (by_caller caller.now.config caller.now.process caller.now.level) (priority_checks priority) }
 {
-    calls::caller_checked(config, process, caller)?;
+    caller.checked()?;
     check(priority <= LAST_PRIORITY, Answer::ParameterError)
 }
 
-// SETPRIORITY of a level with this record.
-pub fn prioritized(config: Config, process: Process, caller: u8, priority: u16) -> Decided
-    ensures { result ≡ prioritized_of config process caller priority }
+// SETPRIORITY by this caller.
+pub fn prioritized(caller: Caller, priority: u16) -> Decided<Process>
+    ensures { result ≡ prioritized_of caller.config caller.process caller.level priority }
 {
-    match priority_checked(config, process, caller, priority) {
-        Err(answer) => Decided::alone(answer, process),
-        Ok(()) => Decided::alone(Answer::Ok, process.with_priority(priority as u8)),
-    }
+    let checked = priority_checked(&caller, priority);
+    calls::ruled(checked, &caller.process, || {
+        Decided::alone(Answer::Ok, caller.process.with_priority(priority as u8))
+    })
 }
 
 pub fn set_priority(table: Table, caller: u8, priority: u16) -> Outcome
     ensures { result ≡ outcome_of (set_priority_of table caller priority) }
 {
     calls::on_record(table, caller as u16, |config, process| {
-        prioritized(config, process, caller, priority)
+        prioritized(
+            Caller {
+                config,
+                process,
+                level: caller,
+            },
+            priority,
+        )
     })
 }

@@ -29,15 +29,6 @@ module _ {A : Type 0} where
       all_of test d (take count l)
       ∙ rw long (every_same (min count (length l)) _ _ (λ i h. ap test (get_or-take count l i d (omega arith))))
 
-  -- the first so many are no more than there are
-  pub take_within : (l : List A) (count : ℕ) → take count l ≡ take (min count (length l)) l
-  take_within [] zero = refl
-  take_within [] (suc count) = let none : min (suc count) 0 ≡ 0 = omega arith in rw none
-  take_within (x ∷ l) zero = let none : min 0 (suc (length l)) ≡ 0 = omega arith in rw none
-  take_within (x ∷ l) (suc count) =
-      let one_less : min (suc count) (suc (length l)) ≡ suc (min count (length l)) = omega arith in
-      ap (λ m. x ∷ m) (take_within l count) ∙ rw one_less
-
   -- and of each with the number of its place
   pub all_numbered : (test : ℕ → A → Bool) (d : A) (l : List A) (from : ℕ)
       → list_all (λ p. test p.0 p.1) (zip (range_with_len from (length l)) l) ≡ every_below (length l) (λ i. test (from + i) (get_or l i d))

@@ -10,10 +10,9 @@ use Rattle.common.specs.Packing.{packed_of}
 use Rattle.common.proofs.Cases.{both_true, either_true}
 use Rattle.common.proofs.Every.{below_every}
 use Rattle.day.specs.TimeOfDay.{day}
-use Rattle.orders.specs.Orders.{none_of, orders_of}
-use Rattle.pool.specs.Control.{never, fresh_of as fresh_pool}
+use Rattle.orders.specs.Orders.{none_of}
+use Rattle.pool.specs.Control.{no_user, fresh_of as fresh_pool}
 use Rattle.process.specs.Process.{fresh_of as fresh_process}
-use Rattle.process.specs.Messages.{empty_of as empty_buffer}
 use Rattle.common.specs.Filled.{filled_of, items_of}
 use Rattle.semaphores.specs.Queues.{empty_of as empty_queue}
 use Rattle.semaphores.specs.Semaphores.{free, fresh_of as fresh_semaphores}
@@ -33,7 +32,7 @@ module _ (c : Config) where
 
   -- each process is INACT, with nothing kept, and not queued
   level_fresh : (level : ℕ) → level_sound c empty_queue level fresh_process ≡ true
-  unfolding level_sound times_of keep_of items_of filled_of packed_of empty_buffer
+  unfolding level_sound times_of keep_of items_of filled_of packed_of
   level_fresh level = either_true (not (configured_of c level)) _ (rw (leb-zero c.places))
 
   levels_fresh : levels_sound c empty_queue (replicate 12 fresh_process) ≡ true
@@ -41,7 +40,7 @@ module _ (c : Config) where
   levels_fresh = below_every 12 _ (λ level h. rw (get_or-replicate 12 level fresh_process no_process h) (level_fresh level))
 
   orders_fresh : orders_sound c none_of ≡ true
-  unfolding orders_sound every_below none_of orders_of
+  unfolding orders_sound every_below filled_of
   orders_fresh = rw (leb-zero c.orders)
 
   holders_fresh : holders_sound c (replicate 96 free) ≡ true
@@ -53,9 +52,9 @@ module _ (c : Config) where
   queue_fresh = refl
 
   -- nobody has stated a length
-  lengths_fresh : lengths_sound c (replicate 12 never) ≡ true
+  lengths_fresh : lengths_sound c (replicate 12 no_user) ≡ true
   unfolding lengths_sound
-  lengths_fresh = below_every 12 _ (λ level h. rw (get_or-replicate 12 level never 0 h) (either_true (not (configured_of c level)) _ refl))
+  lengths_fresh = below_every 12 _ (λ level h. rw (get_or-replicate 12 level no_user no_user h) (either_true (not (configured_of c level)) _ refl))
 
   pool_fresh : pool_sound c fresh_pool ≡ true
   unfolding pool_sound fresh_pool

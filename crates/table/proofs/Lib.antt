@@ -6,5 +6,5 @@ pub mod Ordered
 pub mod Parts
 pub mod Places
 pub mod Queued
-pub mod Waking
 pub mod Signed
+pub mod Waking

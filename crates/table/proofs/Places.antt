@@ -1,6 +1,6 @@
 -- The search over the three privileged places. Assumes nothing.
-use Rattle.std.proofs.Common.{◌≡◌, Bool, List, [], ◌∷◌, length, get_or, arith}
-use Rattle.std.specs.Prelude.{Some, None, find}
+use Rattle.std.proofs.Common.{◌≡◌, ◌∙◌, sym, ap, Bool, true, List, [], ◌∷◌, length, get_or, arith}
+use Rattle.std.specs.Prelude.{Option, Some, None, find, unwrap_or}
 use Rattle.common.specs.Choice.{pick}
 use Rattle.common.proofs.Cases.{by_test}
 use Rattle.table.specs.declared.configs.Config.{Config}
@@ -22,3 +22,18 @@ pub found_first : (c : Config) (test : Privileged → Bool) → length c.privile
     → find test c.privileged ≡ first_place c (test (privileged_at c 0)) (test (privileged_at c 1)) (test (privileged_at c 2))
 unfolding first_place
 found_first c test long = found_three test _ c.privileged long
+
+-- what is found of the first of the places passes, if it is one that is picked by its test
+found_passes : (test : Privileged → Bool) (p found : Privileged) (others : Option Privileged) → (others ≡ Some found → test found ≡ true)
+    → pick (test p) (Some p) others ≡ Some found → test found ≡ true
+found_passes test p found others later is =
+    by_test (test p)
+    (λ yes. let same : Some p ≡ Some found = rw yes at is in ap test (sym (ap (λ (o : Option Privileged). unwrap_or o p) same)) ∙ yes)
+    (λ other. later (rw other at is))
+
+-- so does what is found of the three
+pub first_passes : (test : Privileged → Bool) (c : Config) (found : Privileged)
+    → first_place c (test (privileged_at c 0)) (test (privileged_at c 1)) (test (privileged_at c 2)) ≡ Some found → test found ≡ true
+unfolding first_place
+first_passes test c found =
+    found_passes test (privileged_at c 0) found _ (found_passes test (privileged_at c 1) found _ (found_passes test (privileged_at c 2) found None (λ none. absurd (cc))))

@@ -1,5 +1,9 @@
 -- Document 01, "Answer numbers", and document 02, §1 and §3: the number of each answer, under the name that the document gives it.
 use Rattle.std.specs.Prelude.{Bool, not, ◌&&◌, ℕ, eqb}
+use Rattle.orders.specs.declared.NotCancelled.{NotCancelled}
+use Rattle.orders.specs.declared.NotCancelled.TheVariants.{BadSender, UnknownReceiver, NoOrder, NotTheirs}
+use Rattle.process.specs.declared.marking.Told.{Told}
+use Rattle.process.specs.declared.marking.Told.TheVariants.{Nothing, Overflow, Time}
 use Rattle.table.specs.declared.answers.Answer.{Answer}
 use Rattle.table.specs.declared.answers.Answer.TheVariants.{Ok, ReceiverUnknown, ReceiverNotReady, ReceiverBufferOverflow, BufferEmpty, BufferOverflow, ParameterError, NoTask, NotFound, CommandPrivileged, NoUser, IllegalInput, TaskListOverflow, TimeCondition, NoSemaphoreNumber, NoPoolInit, PoolOverflow, DataLengthFault, PoolLengthFault, Suspended, NotReady, Started, BadConfig, BadLog, NotHolder}
 
@@ -58,3 +62,17 @@ number_of NotHolder = 37
 -- "0, 5, 14 and 32 are no refusals."
 unfoldable pub refusal_of : Answer → Bool
 refusal_of a = not (eqb (number_of a) 0) && not (eqb (number_of a) 5) && not (eqb (number_of a) 14) && not (eqb (number_of a) 32)
+
+-- a message is handed over with "overflow (5) before time (14)", or 0
+abbrev pub told_as : Told → Answer
+told_as Nothing = Ok
+told_as Overflow = BufferOverflow
+told_as Time = TimeCondition
+
+-- 6 PARAMERROR, 1 RECUNKNOWN, 7 NOTASK, 8 NOTFOUND, 6 again
+abbrev pub cancel_answer : NotCancelled → Answer
+cancel_answer BadSender = ParameterError
+cancel_answer UnknownReceiver = ReceiverUnknown
+cancel_answer NoOrder = NoTask
+cancel_answer NotCancelled.NotFound = NotFound
+cancel_answer NotTheirs = ParameterError

@@ -1,7 +1,7 @@
 -- Document 01, "Answer numbers": "A table handed in that shows one of these breaks (a bad configuration, a number beyond its limit, a level named
 -- that is not configured, a message kept for a process in WM, a process in WR not queued exactly once, a queued process not in WR, a queue at a
 -- free or an unusable semaphore) is refused before all else with 35 and left as it is."
-use Rattle.std.specs.Prelude.{Bool, false, not, ◌&&◌, ◌||◌, List, [], ℕ, ◌-◌, min, eqb, leb, ltb, length, get_or}
+use Rattle.std.specs.Prelude.{Bool, true, false, not, ◌&&◌, ◌||◌, Option, Some, None, List, [], ℕ, ◌-◌, min, eqb, leb, ltb, length, get_or}
 use Rattle.common.specs.Choice.{pick}
 use Rattle.common.specs.Every.{every_below}
 use Rattle.common.specs.Keep.{keep_of}
@@ -11,7 +11,8 @@ use Rattle.inputs.specs.InputSet.{except_of, run_of, count_of}
 use Rattle.orders.specs.declared.Order.{Order}
 use Rattle.orders.specs.declared.Orders.{Orders}
 use Rattle.pool.specs.declared.Control.{Control}
-use Rattle.pool.specs.Control.{never}
+use Rattle.pool.specs.declared.User.{User}
+use Rattle.pool.specs.Control.{no_user}
 use Rattle.process.specs.declared.Condition.TheVariants.{Always}
 use Rattle.process.specs.declared.Process.{Process}
 use Rattle.process.specs.declared.states.State.TheVariants.{Inactive, WaitingForMessage, WaitingForSemaphore}
@@ -32,11 +33,11 @@ times_of level q = length (keep_of (at_level level) (list_of q))
 
 -- "a number beyond its limit": a process's priority, and how many messages are kept for it
 abbrev pub process_within : Config → Process → Bool
-process_within c p = leb p.priority 63 && leb p.buffer.count c.places
+process_within c p = leb p.priority 63 && leb p.buffer.list.count c.places
 
 -- "a message kept for a process in WM"
 abbrev pub none_kept : Process → Bool
-none_kept p = not (is_of p.state WaitingForMessage) || eqb p.buffer.count 0
+none_kept p = not (is_of p.state WaitingForMessage) || eqb p.buffer.list.count 0
 
 -- "a process in WR not queued exactly once, a queued process not in WR"
 abbrev pub queued_as_it_waits : Queue → ℕ → Process → Bool
@@ -52,7 +53,7 @@ no_process = record {
   state = Inactive;
   priority = 0;
   marks = record { overflow = false; time = false };
-  buffer = record { kept = []; count = 0 };
+  buffer = record { list = record { items = []; count = 0 } };
 }
 
 unfoldable pub levels_sound : Config → Queue → List Process → Bool
@@ -74,7 +75,7 @@ no_order = record { sender = 0; receiver = 0; condition = Always; due = at 0; ev
 
 -- "a number beyond its limit": more orders than places
 unfoldable pub orders_sound : Config → Orders → Bool
-orders_sound c o = leb o.count c.orders && every_below (min o.count 64) (λ i. order_sound c (get_or o.places i no_order))
+orders_sound c o = leb o.list.count c.orders && every_below (min o.list.count 64) (λ i. order_sound c (get_or o.list.items i no_order))
 
 -- "a level named that is not configured": a holder
 unfoldable pub holder_sound : Config → ℕ → Bool
@@ -103,18 +104,19 @@ abbrev pub clock_within : Table → Bool
 clock_within t = ltb t.clock.milliseconds day
 
 -- document 02, §1, and "a number beyond its limit": a length that was stated, beyond the pool's size
-abbrev pub length_within : Config → ℕ → Bool
-length_within c length = eqb length never || leb length c.pool
+abbrev pub length_within : Config → Option ℕ → Bool
+length_within c None = true
+length_within c (Some length) = leb length c.pool
 
-abbrev pub length_sound : Config → ℕ → ℕ → Bool
+abbrev pub length_sound : Config → ℕ → Option ℕ → Bool
 length_sound c level length = not (configured_of c level) || length_within c length
 
-unfoldable pub lengths_sound : Config → List ℕ → Bool
-lengths_sound c stated = every_below 12 (λ level. length_sound c level (get_or stated level 0))
+unfoldable pub lengths_sound : Config → List User → Bool
+lengths_sound c users = every_below 12 (λ level. length_sound c level (get_or users level no_user).stated)
 
 -- each process's own, and the common one
 unfoldable pub pool_sound : Config → Control → Bool
-pool_sound c control = lengths_sound c control.stated && length_within c control.common
+pool_sound c control = lengths_sound c control.users && length_within c control.common
 
 -- none of the breaks, "a bad configuration" first
 unfoldable pub sound_of : Table → Bool

@@ -1,6 +1,9 @@
 // What a call is answered with: document 01's "Answer numbers", and those of document 02, §1 and §3.
 ghost use Rattle.std.specs.Prelude.{◌≡◌};
-ghost use Rattle.table.specs.Answers.{number_of, refusal_of};
+ghost use Rattle.table.specs.Answers.{number_of, refusal_of, told_as, cancel_answer};
+
+use orders::NotCancelled;
+use process::marking::Told;
 
 #[derive(Clone, Copy, PartialEq, Eq)]
 pub enum Answer {
@@ -47,5 +50,34 @@ impl Answer {
             self,
             Answer::Ok | Answer::BufferOverflow | Answer::TimeCondition | Answer::Suspended
         )
+    }
+}
+
+// The answer with which a message is handed over.
+impl From<Told> for Answer {
+    ghost from_gives = { λ told answer. answer ≡ told_as told };
+
+    fn from(told: Told) -> Answer {
+        match told {
+            Told::Nothing => Answer::Ok,
+            Told::Overflow => Answer::BufferOverflow,
+            Told::Time => Answer::TimeCondition,
+        }
+    }
+}
+
+// The answer of a CANCELSCHEDULE that is refused. The semaphores' refusals have no such `From`: an unusable number is answered 6 to REQSEMA and 15 to
+// RELSEMA, and 37 goes with the level that it shows.
+impl From<NotCancelled> for Answer {
+    ghost from_gives = { λ why answer. answer ≡ cancel_answer why };
+
+    fn from(why: NotCancelled) -> Answer {
+        match why {
+            NotCancelled::BadSender => Answer::ParameterError,
+            NotCancelled::UnknownReceiver => Answer::ReceiverUnknown,
+            NotCancelled::NoOrder => Answer::NoTask,
+            NotCancelled::NotFound => Answer::NotFound,
+            NotCancelled::NotTheirs => Answer::ParameterError,
+        }
     }
 }

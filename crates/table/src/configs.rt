@@ -5,13 +5,15 @@ ghost use Rattle.table.specs.Configuration.{levels_good, scheduler_good, places_
 use day::TimeOfDay;
 use process::Target;
 
-// Stands for the level of a privileged place that is not used. No Option: the call log keeps this byte, and `unused` (specs/Configuration) reads it.
+// Stands for the level of a privileged place that is not used. No Option: a place is three bytes of record 0 as they stand (`place_of` in
+// machine), and `good` and `apart` are one test of these, where they would be a match on one Option and on two.
 pub const UNUSED: u8 = 255;
 
 // -1 as a 16-bit word: all, where one level could stand.
 pub const MINUS_ONE: u16 = 65_535;
 
-// The 16-bit words of numbers below 0 begin here.
+// The 16-bit words of numbers below 0 begin here. No `cast_signed() < 0`: tried, and the proof of SCHEDULE's checks didn't close; the definitions read
+// the word itself (`negative16`).
 pub const NEGATIVE: u16 = 32_768;
 
 // A privileged process and its run of inputs.
@@ -33,7 +35,7 @@ pub struct Config {
     pub places: u8,
     // Order places, A.
     pub orders: u8,
-    // Card type 8 or 16.
+    // Card type 8 or 16. A byte and no enum: record 0 may have any there (`configuration_of`), and another is answered 35 (`places_good`).
     pub card: u8,
     // What the clock reads at the start.
     pub clock: TimeOfDay,
@@ -64,7 +66,7 @@ impl Privileged {
     }
 
     // The place's run has the input.
-    fn has_input(self, input: u16) -> bool
+    pub fn has_input(self, input: u16) -> bool
         ensures { result ≡ has_input input self }
     {
         (self.level != UNUSED) & (u16::from(self.first)..=u16::from(self.last)).contains(&input)

@@ -66,7 +66,8 @@ pub struct Outcome {
     pub table: Table,
 }
 
-// What an outcome says, without the table that it leaves.
+// What an outcome says, without the table that it leaves. No field of the outcome: every caller of the library and every definition reads an answer,
+// what it carries and the wakes of the outcome itself (`answer_of`).
 #[derive(Clone, Copy)]
 pub struct Said {
     pub answer: Answer,
@@ -118,7 +119,7 @@ impl Table {
         Outcome {
             answer,
             shown: Shown::Nothing,
-            wakes: Wakes::none(),
+            wakes: wakes::none(),
             table: self,
         }
     }

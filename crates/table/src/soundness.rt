@@ -6,7 +6,7 @@ use crate::Table;
 use crate::configs::Config;
 use inputs::InputSet;
 use orders::{Order, Orders};
-use pool::Control;
+use pool::{Control, User};
 use process::Process;
 use process::states::State;
 use semaphores::FREE;
@@ -17,9 +17,8 @@ fn times(queue: &Queue, level: u8) -> usize
     ensures { result ≡ times_of level queue.now }
 {
     queue
-        .items
+        .standing()
         .iter()
-        .take(queue.count)
         .filter(|waiter| waiter.level == level)
         .count()
 }
@@ -29,7 +28,7 @@ fn times(queue: &Queue, level: u8) -> usize
 fn level_sound(config: Config, queue: &Queue, level: u8, process: &Process) -> bool
     ensures { result ≡ level_sound config queue.now level process.now }
 {
-    let kept = process.buffer.count;
+    let kept = process.buffer.list.count;
     let waits = process.state == State::WaitingForMessage;
     let queued = common::one_if(process.state == State::WaitingForSemaphore);
     !config.has_level(u16::from(level))
@@ -55,15 +54,17 @@ fn order_sound(config: Config, order: &Order) -> bool
     named & within
 }
 
+// Not by `standing()`: tried, and the proof didn't close, since nothing tells that there are 64 places where `items` is not read. As for the queue.
 fn orders_sound(config: Config, orders: &Orders) -> bool
     ensures { result ≡ orders_sound config orders.now }
 {
     let all = orders
-        .places
+        .list
+        .items
         .iter()
-        .take(orders.count)
+        .take(orders.list.count)
         .all(|order| order_sound(config, order));
-    (orders.count <= usize::from(config.orders)) & all
+    (orders.list.count <= usize::from(config.orders)) & all
 }
 
 fn holder_sound(config: Config, holder: u8) -> bool
@@ -107,31 +108,32 @@ fn on_card(config: Config, set: InputSet) -> bool
 }
 
 // A length that was stated is at most the pool's size.
-fn length_within(config: Config, length: u16) -> bool
+fn length_within(config: Config, length: Option<u16>) -> bool
     ensures { result ≡ length_within config length }
 {
-    (length == pool::NEVER) | (length <= config.pool)
+    length.is_none_or(|length| length <= config.pool)
 }
 
 // What stands at a level that is not configured is not looked at.
-fn length_sound(config: Config, level: u8, length: u16) -> bool
+fn length_sound(config: Config, level: u8, length: Option<u16>) -> bool
     ensures { result ≡ length_sound config level length }
 {
     !config.has_level(u16::from(level)) | length_within(config, length)
 }
 
-fn lengths_sound(config: Config, stated: &[u16; 12]) -> bool
-    ensures { result ≡ lengths_sound config stated.now }
+// No function over this and `levels_sound`: each is one line.
+fn lengths_sound(config: Config, users: &[User; 12]) -> bool
+    ensures { result ≡ lengths_sound config users.now }
 {
     (0u8..12)
-        .zip(stated)
-        .all(|(level, length)| length_sound(config, level, *length))
+        .zip(users)
+        .all(|(level, user)| length_sound(config, level, user.stated))
 }
 
 fn pool_sound(config: Config, control: &Control) -> bool
     ensures { result ≡ pool_sound config control.now }
 {
-    lengths_sound(config, &control.stated) & length_within(config, control.common)
+    lengths_sound(config, &control.users) & length_within(config, control.common)
 }
 
 // None of the breaks that document 01 lists.

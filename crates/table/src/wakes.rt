@@ -1,7 +1,8 @@
 // Who wakes by a call, an event or a tick, and with what.
 ghost use Rattle.std.specs.Prelude.{◌≡◌};
-ghost use Rattle.table.specs.Wakes.{wake_number_of, no_wakes_of, wake_push_of};
+ghost use Rattle.table.specs.Wakes.{wake_number_of, no_wakes_of};
 
+use common::filled::Filled;
 use inputs::InputSet;
 use process::buffers::Message;
 use process::marking::Told;
@@ -23,12 +24,8 @@ pub struct Wake {
     pub woken: Woken,
 }
 
-// In order: the first at place 0. Twelve are enough, since a process wakes at most once. An array and a count, since there is no heap.
-#[derive(Clone, Copy)]
-pub struct Wakes {
-    pub wakes: [Wake; 12],
-    pub count: usize,
-}
+// In order: the first at place 0. Twelve are enough, since a process wakes at most once.
+pub type Wakes = Filled<Wake, 12>;
 
 impl Wake {
     // What lies in a free place.
@@ -48,30 +45,9 @@ impl Wake {
     }
 }
 
-impl Wakes {
-    pub fn none() -> Wakes
-        ensures { result ≡ no_wakes_of }
-    {
-        Wakes {
-            wakes: [Wake::NOBODY; 12],
-            count: 0,
-        }
-    }
-
-    // One wake more, after the others.
-    pub fn push(self, wake: Wake) -> Wakes
-        ensures { result ≡ wake_push_of self wake }
-    {
-        let count = self.count;
-        if count < 12 {
-            let mut wakes = self.wakes;
-            wakes[count] = wake;
-            Wakes {
-                wakes,
-                count: count + 1,
-            }
-        } else {
-            self
-        }
-    }
+// Nobody wakes.
+pub fn none() -> Wakes
+    ensures { result ≡ no_wakes_of }
+{
+    Filled::empty(Wake::NOBODY)
 }

@@ -10,6 +10,7 @@ use borrow.Author.Tests.{leb-true, lt-ltb, le-leb}
 use Rattle.std.specs.Prelude.{Option}
 use Rattle.common.specs.Every.{every}
 use Rattle.common.proofs.Cases.{by_pick, both, both_true}
+use Rattle.common.proofs.Filling.{standing_short}
 use Rattle.day.specs.declared.TimeOfDay.{TimeOfDay}
 use Rattle.day.specs.TimeOfDay.{day, forward_of}
 use Rattle.day.proofs.Forward.{forward_within}
@@ -17,7 +18,6 @@ use Rattle.orders.specs.declared.Order.{Order}
 use Rattle.orders.specs.declared.Orders.{Orders}
 use Rattle.orders.specs.Advance.{due_at, due_count_of, again_of, onward_of, left_of, lefts_of, advancing, advance_of}
 use Rattle.orders.specs.Orders.{standing_of}
-use Rattle.orders.proofs.Tables.{standing_most}
 use Rattle.posting.specs.declared.Origin.TheVariants.{Timed}
 use Rattle.posting.proofs.Keeping.{letters_keep, letters_whole}
 use Rattle.table.specs.declared.configs.Config.{Config}
@@ -65,16 +65,16 @@ module _ (c : Config) (now : TimeOfDay) where
       )
 
   -- sound orders are sound after a moment, in as many places
-  advance_good : (o : Orders) → length o.places ≡ 64 → orders_sound c o ≡ true
-      → (length (advance_of now o).places ≡ 64) × (orders_sound c (advance_of now o) ≡ true)
+  advance_good : (o : Orders) → length o.list.items ≡ 64 → orders_sound c o ≡ true
+      → (length (advance_of now o).list.items ≡ 64) × (orders_sound c (advance_of now o) ≡ true)
   unfolding advance_of
   advance_good o places sound =
       let lefts = lefts_good (standing_of o) (orders_standing c o sound) in
       let fewer : length (advancing now (standing_of o)) ≤ length (standing_of o) = lefts.0 in
-      by_pick (λ (after : Orders). (length after.places ≡ 64) × (orders_sound c after ≡ true)) (eqb (due_count_of now o) 0) o _
+      by_pick (λ (after : Orders). (length after.list.items ≡ 64) × (orders_sound c after ≡ true)) (eqb (due_count_of now o) 0) o _
       (places, sound) (
         made_places (advancing now (standing_of o)),
-        made_sound c (advancing now (standing_of o)) (omega (arith, standing_most o)) (omega (arith, standing_few o, orders_count c o sound)) lefts.1,
+        made_sound c (advancing now (standing_of o)) (omega (arith, standing_short 64 o.list)) (omega (arith, standing_few o, orders_count c o sound)) lefts.1,
       )
 
 -- ---- ticks

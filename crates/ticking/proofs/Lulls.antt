@@ -8,12 +8,12 @@ use lib.Dec.{eqb}
 use lib.ListN.{take}
 use borrow.Author.Tests.{eqb-true, eqb-false, ltb-true, not-true, not-false}
 use Rattle.std.specs.Prelude.{Some, None}
+use Rattle.common.specs.Filled.{items_of}
 use Rattle.common.specs.Keep.{keep_of}
 use Rattle.common.proofs.Cases.{by_test, both_true, either_true}
 use Rattle.day.specs.TimeOfDay.{forward_of}
 use Rattle.day.specs.declared.TimeOfDay.{TimeOfDay}
 use Rattle.orders.specs.declared.Orders.{Orders}
-use Rattle.orders.specs.Orders.{standing_of}
 use Rattle.orders.specs.Advance.{due_of, next_due_of}
 use Rattle.table.specs.declared.Scheduler.{Scheduler}
 use Rattle.table.specs.declared.Table.{Table}
@@ -25,16 +25,16 @@ use Rattle.ticking.proofs.Quieting.{ticks_none, Undue, undue_before, clock_none,
 -- ---- no order is due
 
 -- where none stands, none is due
-undue_none : (n : ℕ) (t : Table) → t.orders.count ≡ 0 → Undue n t
-unfolding standing_of due_of keep_of
-undue_none n t none k some within = ap (λ m. due_of (forward_of t.clock k) (take (min m 64) t.orders.places)) none
+undue_none : (n : ℕ) (t : Table) → t.orders.list.count ≡ 0 → Undue n t
+unfolding items_of due_of keep_of
+undue_none n t none k some within = ap (λ m. due_of (forward_of t.clock k) (take (min m 64) t.orders.list.items)) none
 
 -- the code's test says no more than that
 undue_tested : (n : ℕ) (t : Table) → none_due t.orders t.clock n ≡ true → Undue n t
 unfolding none_due
 undue_tested n t holds =
-    by_test (eqb t.orders.count 0)
-    (λ none. undue_none n t (eqb-true t.orders.count 0 none))
+    by_test (eqb t.orders.list.count 0)
+    (λ none. undue_none n t (eqb-true t.orders.list.count 0 none))
     (λ some. undue_before n t (ltb-true n (next_due_of t.clock t.orders) (rw some at holds)))
 
 -- ---- the scheduler

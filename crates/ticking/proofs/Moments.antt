@@ -11,29 +11,30 @@ use lib.Seq.{take_all, set-get_or}
 use borrow.Author.Tests.{eqb-true, eqb-false, eq-eqb, ne_eqb, ltb-true, ltb-false}
 use Rattle.std.specs.Prelude.{Some, None}
 use Rattle.common.specs.Choice.{pick}
+use Rattle.common.specs.Filled.{items_of}
 use Rattle.common.specs.Fold.{fold_of}
 use Rattle.common.specs.Keep.{keep_of}
 use Rattle.common.proofs.Cases.{by_test, by_pick, both_true}
+use Rattle.common.proofs.Filling.{standing_short, standing_filled}
 use Rattle.common.proofs.Fold.{fold_append}
 use Rattle.day.specs.declared.TimeOfDay.{TimeOfDay}
 use Rattle.day.specs.TimeOfDay.{forward_of}
 use Rattle.orders.specs.declared.Order.{Order}
 use Rattle.orders.specs.declared.Orders.{Orders}
-use Rattle.orders.specs.Orders.{standing_of, orders_of}
+use Rattle.orders.specs.Orders.{no_order, standing_of, orders_of}
 use Rattle.orders.specs.Advance.{due_at, due_of, due_count_of, onward_of, left_of, lefts_of, advancing, advance_of, next_due, next_due_of, without_place_of}
 use Rattle.orders.proofs.Places.{standing_split, changed_to, changed_before, changed_behind, left_before, left_behind, without_beyond}
-use Rattle.orders.proofs.Standing.{standing_orders}
-use Rattle.orders.proofs.Tables.{standing_most, advance_orders}
+use Rattle.orders.proofs.Tables.{advance_orders}
 use Rattle.posting.specs.declared.Origin.TheVariants.{Timed}
 use Rattle.posting.specs.Posting.{is_handed, delivered_to, pushed_for, one_of, all_of}
 use Rattle.posting.proofs.Stepping.{pushed_none, one_record, one_wake}
 use Rattle.posting.proofs.Waking.{length_one, one_out, one_wakes_out}
-use Rattle.process.specs.declared.Delivery.{Delivery}
+use Rattle.process.specs.Process.{Delivery, delivery}
+use Rattle.process.specs.declared.Fate.{Fate}
 use Rattle.process.specs.declared.Process.{Process}
 use Rattle.table.specs.declared.Outcome.{Outcome}
 use Rattle.table.specs.declared.Table.{Table}
-use Rattle.table.specs.declared.wakes.Wakes.{Wakes}
-use Rattle.table.specs.Wakes.{wake_push_of}
+use Rattle.table.specs.Wakes.{Wakes, wake_push_of}
 use Rattle.calls.specs.Levels.{with_clock, with_processes, with_orders}
 use Rattle.calls.specs.Outcomes.{carries_number}
 use Rattle.ticking.specs.Ticking.{letter_of, carried_out, carrying_out, ticks_of}
@@ -109,15 +110,20 @@ module _ (places : ℕ) (now : TimeOfDay) (x : Order) (processes : List Process)
     within : x.receiver < length processes
     within = rw twelve (ltb-true x.receiver 12 (both_true (due_at now x) (ltb x.receiver 12) due).1)
 
-    pub served_record : set processes x.receiver delivered_there.process ≡ processes_after
-    served_record = rw (both_true (due_at now x) (ltb x.receiver 12) due).0 (one_record Timed places (letter_of x) processes d within)
+    module _ (fate : Fate) (after : Process) (same : delivery fate after ≡ delivered_there) where
+      pub served_record : set processes x.receiver after ≡ processes_after
+      served_record =
+          ap (λ (d : Delivery). set processes x.receiver d.process) same
+          ∙ rw (both_true (due_at now x) (ltb x.receiver 12) due).0 (one_record Timed places (letter_of x) processes d within)
 
-    pub served_wakes : (wakes : Wakes) → pushed_for wakes x.receiver delivered_there.fate x.message ≡ wakes_after wakes
-    served_wakes wakes = rw (both_true (due_at now x) (ltb x.receiver 12) due).0 (one_wake Timed places (letter_of x) processes d within wakes)
+      pub served_wakes : (wakes : Wakes) → pushed_for wakes x.receiver fate x.message ≡ wakes_after wakes
+      served_wakes wakes =
+          ap (λ (d : Delivery). pushed_for wakes x.receiver d.fate x.message) same
+          ∙ rw (both_true (due_at now x) (ltb x.receiver 12) due).0 (one_wake Timed places (letter_of x) processes d within wakes)
 
-    -- a message that is not handed over wakes nobody
-    pub served_quiet : (wakes : Wakes) → is_handed delivered_there.fate ≡ false → wakes ≡ wakes_after wakes
-    served_quiet wakes quiet = sym (pushed_none wakes x.receiver delivered_there.fate x.message quiet) ∙ served_wakes wakes
+      -- a message that is not handed over wakes nobody
+      pub served_quiet : (wakes : Wakes) → is_handed fate ≡ false → wakes ≡ wakes_after wakes
+      served_quiet wakes quiet = sym (pushed_none wakes x.receiver fate x.message quiet) ∙ served_wakes wakes
 
   -- where it is not due, or for no level that there is, nobody is
   module _ (twelve : length processes ≡ 12) (not : due_at now x && ltb x.receiver 12 ≡ false) where
@@ -146,9 +152,9 @@ module _ (t : Table) (left : ℕ) (now : TimeOfDay) (processes : List Process) (
       ∙ rw (later, add-zero carried, same later, left_later now x later))
 
 -- the same in the order table: the order at a place becomes what is left of it, or leaves
-module _ (t : Table) (left : ℕ) (now : TimeOfDay) (processes : List Process) (wakes : Wakes) (o : Orders) (carried at : ℕ) (d : Order) (long : length o.places ≡ 64) (stands : at < min o.count 64) where
+module _ (t : Table) (left : ℕ) (now : TimeOfDay) (processes : List Process) (wakes : Wakes) (o : Orders) (carried at : ℕ) (d : Order) (long : length o.list.items ≡ 64) (stands : at < min o.list.count 64) where
   abbrev here : Order
-  here = get_or o.places at d
+  here = get_or o.list.items at d
 
   -- the run that is left
   abbrev through_now : Outcome
@@ -174,7 +180,7 @@ module _ (t : Table) (left : ℕ) (now : TimeOfDay) (processes : List Process) (
     unchanged later =
         let itself = rw later at so in
         let same : next ≡ here = cc in
-        rw same (ap (λ (l : List Order). record { places = l; count = o.count }) (set-get_or o.places at d))
+        rw same (ap (λ (l : List Order). record { list = record { items = l; count = o.list.count } }) (set-get_or o.list.items at d))
 
     pub turn_stays : through_next (changed_to o at long stands next) (take (at + 1) (standing_of (changed_to o at long stands next)))
         (drop (at + 1) (standing_of (changed_to o at long stands next)))
@@ -206,7 +212,7 @@ module _ (o : Orders) (carried : ℕ) where
   standing_after =
       by_test (eqb carried 0)
       (λ none. ap (λ b. standing_of (pick b o (orders_of (standing_of o)))) none)
-      (λ some. ap (λ b. standing_of (pick b o (orders_of (standing_of o)))) some ∙ standing_orders (standing_of o) (standing_most o))
+      (λ some. ap (λ b. standing_of (pick b o (orders_of (standing_of o)))) some ∙ standing_filled 64 no_order (standing_of o) (standing_short 64 o.list))
 
   -- and the moment makes of them what the loop does
   advance_after : (now : TimeOfDay) → advance_of now (orders_after carried o (standing_of o)) ≡ orders_after (carried + length (due_of now (standing_of o))) o (advancing now (standing_of o))
@@ -217,7 +223,7 @@ module _ (o : Orders) (carried : ℕ) where
       (λ none. let same : length (due_of now l) ≡ carried + length (due_of now l) = omega (arith, eqb-true carried 0 none) in
       rw none (ap (λ (n : ℕ). pick (eqb n 0) o (orders_of (advancing now l))) same))
       (λ some. let more : carried + length (due_of now l) ≡ 0 → ⊥ = λ none. omega (arith, eqb-false carried 0 some) in
-      rw (some, ne_eqb (carried + length (due_of now l)) 0 more) (advance_orders now l (standing_most o)))
+      rw (some, ne_eqb (carried + length (due_of now l)) 0 more) (advance_orders now l (standing_short 64 o.list)))
 
   -- the code writes them anew where one was carried out
   pub after_some : 0 < carried → without_place_of 64 o ≡ orders_after carried o (standing_of o)
@@ -227,9 +233,9 @@ module _ (o : Orders) (carried : ℕ) where
   after_none none = rw (eq-eqb carried 0 (omega arith))
 
 -- where all of them are through
-module _ (o : Orders) (at : ℕ) (all : min o.count 64 ≤ at) where
+module _ (o : Orders) (at : ℕ) (all : min o.list.count 64 ≤ at) where
   standing_few : length (standing_of o) ≤ at
-  unfolding standing_of
+  unfolding items_of
   standing_few = simp length-take (omega arith)
 
   pub taken_all : take at (standing_of o) ≡ standing_of o
@@ -262,6 +268,6 @@ module _ (o : Orders) (at : ℕ) (all : min o.count 64 ≤ at) where
     through_end none = sym (through_none ∙ end_none wakes carried left _ none)
 
 -- the run begins
-pub through_begin : (t : Table) (at n : ℕ) (wakes : Wakes) → min t.orders.count 64 ≤ at
+pub through_begin : (t : Table) (at n : ℕ) (wakes : Wakes) → min t.orders.list.count 64 ≤ at
     → end_through t n t.clock t.processes wakes t.orders 0 (take at (standing_of t.orders)) (drop at (standing_of t.orders)) ≡ end_of wakes 0 (ticks_of n t)
 through_begin t at n wakes all = through_none t.orders at all t n t.clock t.processes wakes 0

@@ -10,6 +10,7 @@ use lib.ListN.{length}
 use borrow.Author.Tests.{eq-eqb, ne_eqb}
 use Rattle.common.specs.Fold.{fold_of}
 use Rattle.common.proofs.Cases.{by_test}
+use Rattle.common.proofs.Filling.{push_all}
 use Rattle.common.proofs.Fold.{fold_append}
 use Rattle.day.specs.declared.TimeOfDay.{TimeOfDay}
 use Rattle.day.specs.TimeOfDay.{forward_of}
@@ -21,11 +22,9 @@ use Rattle.orders.specs.Advance.{due_of, advance_of, next_due, next_due_of}
 use Rattle.orders.proofs.Nearest.{quiet_none}
 use Rattle.orders.proofs.Tables.{due_counted, advance_none}
 use Rattle.posting.specs.Posting.{all_of}
-use Rattle.posting.proofs.Letters.{push_all}
-use Rattle.table.specs.declared.wakes.Wakes.{Wakes}
 use Rattle.table.specs.declared.Outcome.{Outcome}
 use Rattle.table.specs.declared.Table.{Table}
-use Rattle.table.specs.Wakes.{no_wakes_of, wake_push_of}
+use Rattle.table.specs.Wakes.{nobody, Wakes, no_wakes_of, wake_push_of}
 use Rattle.calls.specs.Effects.{outcome_of}
 use Rattle.calls.specs.Levels.{with_clock, with_scheduler}
 use Rattle.calls.specs.Outcomes.{carries_number}
@@ -245,5 +244,5 @@ end_none wakes carried left t none = ap (end_of wakes carried) (ticks_none left 
 
 -- and from the first tick on it is what all of them do
 pub end_all : (x : Run) → end_of no_wakes_of 0 x ≡ outcome_of (run_effect x)
-unfolding end_of no_wakes_of
-end_all x = ap₂ (carries_number x.table) (zero-add x.count) (push_all [] x.wakes) ∙ outcome_number x.table x.count x.wakes
+unfolding end_of
+end_all x = ap₂ (carries_number x.table) (zero-add x.count) (push_all 12 nobody [] x.wakes) ∙ outcome_number x.table x.count x.wakes

@@ -84,7 +84,7 @@ runs_on s = s.running && not s.switch
 
 -- no order is due at any of the next n ticks: none stands, or the next due moment is further off
 unfoldable pub none_due : Orders → TimeOfDay → ℕ → Bool
-none_due o clock n = eqb o.count 0 || ltb n (next_due_of clock o)
+none_due o clock n = eqb o.list.count 0 || ltb n (next_due_of clock o)
 
 -- n ticks on; no tick leaves even a clock that reads no time of day as it is
 unfoldable pub clock_after : TimeOfDay → ℕ → TimeOfDay

@@ -7,9 +7,8 @@ ghost use Rattle.ticking.specs.Ticking.{run_effect, tick_of, ticks_of, runs_on, 
 
 use day::TimeOfDay;
 use orders::Orders;
-use posting::{Origin, delivered};
-use table::wakes::Wakes;
-use table::{Outcome, Scheduler, Table};
+use posting::Origin;
+use table::{Outcome, Scheduler, Table, wakes};
 
 // What so many ticks come to where they carry out no order: a lull. The clock and the scheduler are all that changes.
 #[derive(Clone, Copy)]
@@ -29,37 +28,37 @@ fn running_on(table: Table, count: u32) -> Outcome
     let config = after.config;
     let places = config.places as usize;
     let mut processes = after.processes;
-    let mut wakes = Wakes::none();
+    let mut wakes = wakes::none();
     let mut orders = after.orders;
     let mut clock = after.clock;
     let mut carried: u64 = 0;
     let mut left = count;
     // The orders before `at` are through with the moment that the clock reads, and the next that one of these is due is so far off.
     let mut nearest = orders.next_due(clock);
-    let mut standing = orders.count.min(orders::MOST_ORDERS);
+    let mut standing = orders.list.count.min(orders::MOST_ORDERS);
     let mut at = standing;
     while (0 < left) | (at < standing) {
         if at < standing {
-            let order = orders.places[at];
+            let order = orders.list.items[at];
             let receiver = order.receiver;
             let is_due = order.is_due(clock);
             if is_due & (receiver < 12) {
-                let process = processes[receiver as usize];
-                let delivery = delivered(
+                let mut process = processes[receiver as usize];
+                let fate = posting::deliver(
                     Origin::Timed,
                     places,
                     order.condition,
                     order.message,
-                    process,
+                    &mut process,
                 );
-                processes[receiver as usize] = delivery.process;
-                if posting::is_handed(delivery.fate) {
-                    wakes = posting::pushed(wakes, receiver, delivery.fate, order.message);
+                processes[receiver as usize] = process;
+                if posting::is_handed(fate) {
+                    wakes = posting::pushed(wakes, receiver, fate, order.message);
                 }
             }
             carried += common::one_if(is_due) as u64;
             if let Some(next) = order.onward(clock) {
-                orders.places[at] = next;
+                orders.list.items[at] = next;
                 nearest = nearest.min(clock.until(next.due));
                 at += 1;
             } else {
@@ -96,10 +95,11 @@ fn runs_on(scheduler: Scheduler) -> bool
 fn none_due(orders: Orders, clock: TimeOfDay, count: u32) -> bool
     ensures { result ≡ none_due orders clock count }
 {
-    (orders.count == 0) || count < orders.next_due(clock)
+    (orders.list.count == 0) || count < orders.next_due(clock)
 }
 
 // What the clock reads after so many ticks.
+#[tactic(auto, unfolding(crate::specs::Ticking::clock_after))]
 fn clock_after(clock: TimeOfDay, count: u32) -> TimeOfDay
     ensures { result ≡ clock_after clock count }
 {
@@ -111,6 +111,7 @@ fn clock_after(clock: TimeOfDay, count: u32) -> TimeOfDay
 }
 
 // The scheduler after so many ticks. One that does not run on is stopped after the first.
+#[tactic(auto, unfolding(crate::specs::Ticking::scheduler_after))]
 fn scheduler_after(scheduler: Scheduler, count: u32) -> Scheduler
     ensures { result ≡ scheduler_after scheduler count }
 {
@@ -163,7 +164,7 @@ pub fn ticks(table: Table, count: u32) -> Outcome
         let mut after = table;
         after.clock = lull.clock;
         after.scheduler = lull.scheduler;
-        calls::with_number(after, 0, Wakes::none())
+        calls::with_number(after, 0, wakes::none())
     } else {
         running_on(table, count)
     }

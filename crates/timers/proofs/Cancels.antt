@@ -1,18 +1,19 @@
--- What a cancel comes to, and an order that is entered: done, or refused with the orders as they stood. Assumes nothing.
+-- What a cancel comes to, and an order that is entered: done, or refused with the table as it stood. Assumes nothing.
 use mathlib.Core.Path.{◌≡◌, refl}
 use mathlib.Core.Logic.{◌⊎◌, inl, inr}
-use Rattle.std.specs.Prelude.{Option, Some, None, Result, Ok, Err}
+use Rattle.std.specs.Prelude.{ℕ, Option, Some, None, Result, Ok, Err}
 use Rattle.orders.specs.declared.NotCancelled.{NotCancelled}
 use Rattle.orders.specs.declared.NotCancelled.TheVariants.{BadSender, UnknownReceiver, NoOrder, NotFound, NotTheirs}
 use Rattle.orders.specs.declared.Orders.{Orders}
-use Rattle.orders.specs.Cancel.{cancelled_number, after_cancel, cancel_of}
+use Rattle.orders.specs.Cancel.{cancelled_number, cancel_of}
 use Rattle.process.specs.declared.Target.{Target}
-use Rattle.table.specs.Answers.{number_of}
+use Rattle.table.specs.Answers.{number_of, cancel_answer}
 use Rattle.table.specs.declared.answers.Answer.TheVariants.{TaskListOverflow}
 use Rattle.table.specs.declared.Table.{Table}
+use Rattle.table.specs.Configuration.{receiver_of, sender_of}
 use Rattle.calls.specs.Effects.{Effect, refuse, done}
 use Rattle.calls.specs.Levels.{with_orders}
-use Rattle.timers.specs.Timers.{entering, cancel_answer, cancelled_answer, cancelling}
+use Rattle.timers.specs.Timers.{entering, cancelled_answer, cancelling, cancelled_of}
 
 -- the answer has the number that the order table gives
 pub answer_number : (c : Result Orders NotCancelled) → number_of (cancelled_answer c) ≡ cancelled_number c
@@ -23,17 +24,25 @@ answer_number (Err NoOrder) = refl
 answer_number (Err NotFound) = refl
 answer_number (Err NotTheirs) = refl
 
--- done, or the orders as they stood
-abbrev DoneOrSame : Orders → Result Orders NotCancelled → Type 0
-DoneOrSame o c = ((left : Orders) × (c ≡ Ok left)) ⊎ (after_cancel o c ≡ o)
+-- A cancel of the order table and what the call does then: done, and the orders that are left stand; or refused, and the table is as it was.
+abbrev pub DoneOrSame : Table → Result Orders NotCancelled → Effect → Type 0
+DoneOrSame t c e =
+    ((left : Orders) × (c ≡ Ok left) × (e ≡ done (with_orders t left)))
+    ⊎ ((why : NotCancelled) × (c ≡ Err why) × (e ≡ refuse t (cancel_answer why)))
 
-same_refused : (o : Orders) (c : Result Orders NotCancelled) → DoneOrSame o c
-same_refused o (Ok left) = inl (left, refl)
-same_refused o (Err why) = inr refl
+same_refused : (t : Table) (c : Result Orders NotCancelled) → DoneOrSame t c (cancelling c t)
+same_refused t (Ok left) = inl (left, refl, refl)
+same_refused t (Err why) = inr (why, refl, refl)
 
-pub done_or_same : (sender receiver : Target) (o : Orders)
-    → ((left : Orders) × (cancel_of sender receiver o ≡ Ok left)) ⊎ (after_cancel o (cancel_of sender receiver o) ≡ o)
-done_or_same sender receiver o = same_refused o (cancel_of sender receiver o)
+-- so it is whoever is named as sender and as receiver
+pub done_or_same : (sender receiver : Target) (t : Table) → DoneOrSame t (cancel_of sender receiver t.orders) (cancelling (cancel_of sender receiver t.orders) t)
+done_or_same sender receiver t = same_refused t (cancel_of sender receiver t.orders)
+
+-- and of the numbers that the call is given
+pub cancelled_or_same : (t : Table) (sender receiver : ℕ)
+    → DoneOrSame t (cancel_of (sender_of sender) (receiver_of t.config receiver) t.orders) (cancelled_of t sender receiver)
+unfolding cancelled_of
+cancelled_or_same t sender receiver = done_or_same (sender_of sender) (receiver_of t.config receiver) t
 
 module _ (P : Effect → Type 0) (t : Table) where
   -- what holds of a cancel that is done and of each that is refused holds of any

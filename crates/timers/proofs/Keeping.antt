@@ -1,17 +1,18 @@
 -- The timer calls leave a table that stands as tables stand along a run. Assumes nothing.
-use mathlib.Core.Path.{◌≡◌, ◌∙◌, refl, sym, subst}
+use mathlib.Core.Path.{◌≡◌, ◌∙◌, sym, subst}
 use mathlib.Core.Bool.{true, not}
 use mathlib.Core.List.{List, [], ◌∷◌, ◌++◌}
-use Prim.Native.Nat.{ℕ, ◌+◌, ◌<◌, ◌≤◌, min}
+use Prim.Native.Nat.{ℕ, ◌<◌, ◌≤◌, min}
 use native.Mathlib.Omega.{arith}
 use lib.Dec.{eqb, ltb}
-use lib.ListN.{length, length-set}
+use lib.ListN.{length}
 use borrow.Author.Tests.{leb-false, ltb-true, lt-ltb, le-leb, not-true}
 use Rattle.std.specs.Prelude.{Ok}
 use Rattle.std.specs.Prelude.{Result}
 use Rattle.common.specs.Every.{every}
 use Rattle.common.specs.Keep.{keep_of}
 use Rattle.common.proofs.Cases.{by_test, by_pick}
+use Rattle.common.proofs.Filling.{standing_short, standing_push, push_count, push_places}
 use Rattle.common.proofs.Keep.{length_keep}
 use Rattle.common.proofs.Parts.{part_keep}
 use Rattle.day.specs.declared.TimeOfDay.{TimeOfDay}
@@ -25,8 +26,6 @@ use Rattle.orders.specs.Moments.{interval_of, delay_of}
 use Rattle.orders.specs.Orders.{standing_of, push_of, accept_of}
 use Rattle.orders.specs.Timer.{stays_after}
 use Rattle.orders.proofs.Schedule.{interval_range}
-use Rattle.orders.proofs.Standing.{push_room}
-use Rattle.orders.proofs.Tables.{standing_most, standing_push}
 use Rattle.process.specs.declared.Target.{Target}
 use Rattle.process.specs.declared.Target.TheVariants.{All, Level, Unknown}
 use Rattle.table.specs.declared.configs.Config.{Config}
@@ -45,26 +44,19 @@ use Rattle.timers.specs.Timers.{Moment, moment_of, first_by, order_of, ordered, 
 
 -- orders in whole places, and sound
 abbrev Good : Config → Orders → Type 0
-Good c o = (length o.places ≡ 64) × (orders_sound c o ≡ true)
+Good c o = (length o.list.items ≡ 64) × (orders_sound c o ≡ true)
 
 module _ (c : Config) (o : Orders) (good : Good c o) where
-  -- a push leaves the places whole
-  push_places : (x : Order) → o.count < 64 → length (push_of o x).places ≡ 64
-  push_places x free = subst (λ (p : Orders). length p.places ≡ 64) (sym (push_room o x free)) (length-set o.places o.count x ∙ good.0)
-
-  -- and counts the order
-  push_count : (x : Order) → o.count < 64 → (push_of o x).count ≡ o.count + 1
-  push_count x free = subst (λ (p : Orders). p.count ≡ o.count + 1) (sym (push_room o x free)) refl
-
   -- a sound order that is pushed where a place is left
-  push_good : (x : Order) → o.count < min c.orders 64 → order_sound c x ≡ true → Good c (push_of o x)
+  push_good : (x : Order) → o.list.count < min c.orders 64 → order_sound c x ≡ true → Good c (push_of o x)
   push_good x free sound =
-      let below : o.count < 64 = omega arith in
+      let below : o.list.count < 64 = omega arith in
+      let whole : length (push_of o x).list.items ≡ 64 = push_places 64 o.list x ∙ good.0 in
       let all : every (order_sound c) (standing_of o ++ (x ∷ [])) ≡ true =
       every_append (order_sound c) (standing_of o) (x ∷ []) (orders_standing c o good.1) (rw sound) in (
-        push_places x below,
-        standing_sound c (push_of o x) (push_places x below) (omega (arith, push_count x below))
-            (subst (λ (l : List Order). every (order_sound c) l ≡ true) (sym (standing_push o 64 x good.0 below)) all),
+        whole,
+        standing_sound c (push_of o x) whole (omega (arith, push_count 64 o.list x below))
+            (subst (λ (l : List Order). every (order_sound c) l ≡ true) (sym (standing_push 64 o.list x good.0 below)) all),
       )
 
   -- the orders that a cancel leaves
@@ -74,7 +66,7 @@ module _ (c : Config) (o : Orders) (good : Good c o) where
       let stay : List Order = keep_of (stays_after sender receiver) (standing_of o) in
       let fewer : length stay ≤ length (standing_of o) = length_keep (stays_after sender receiver) (standing_of o) in (
         made_places stay,
-        made_sound c stay (omega (arith, standing_most o)) (omega (arith, standing_few o, orders_count c o good.1))
+        made_sound c stay (omega (arith, standing_short 64 o.list)) (omega (arith, standing_few o, orders_count c o good.1))
             (every_part (order_sound c) (part_keep (stays_after sender receiver) (standing_of o)) (orders_standing c o good.1)),
       )
 
@@ -83,7 +75,7 @@ module _ (c : Config) (o : Orders) (good : Good c o) where
   unfolding removed_of
   removed_good sender receiver =
       let kept : Result Orders NotCancelled → Type 0 = (λ cancelled. Good c (after_cancel o cancelled)) in
-      by_pick kept (eqb o.count 0) _ _ good
+      by_pick kept (eqb o.list.count 0) _ _ good
       (by_pick kept (eqb (how_many_of All receiver o) 0) _ _ good
       (by_pick kept (eqb (how_many_of sender receiver o) 0) _ _ good (without_good sender receiver)))
 
@@ -116,7 +108,7 @@ order_sound_lem c clock caller moment new sender receiver count =
 ordered_keeps : (t : Table) (x : Order) → Steady t → order_sound t.config x ≡ true → Keeps (ordered t x)
 unfolding ordered accept_of Keeps
 ordered_keeps t x steady sound =
-    by_test (ltb t.orders.count (min t.config.orders 64))
+    by_test (ltb t.orders.list.count (min t.config.orders 64))
     (λ free. let good = push_good t.config t.orders (steady.places, steady.parts.orders) x (ltb-true _ _ free) sound in
     rw free (steady_orders t (push_of t.orders x) steady good.0 good.1))
     (λ full. rw full steady)

@@ -8,7 +8,6 @@ use Rattle.day.specs.declared.TimeOfDay.{TimeOfDay}
 use Rattle.day.specs.Fields.{made_of}
 use Rattle.day.specs.TimeOfDay.{forward_of}
 use Rattle.orders.specs.declared.NotCancelled.{NotCancelled}
-use Rattle.orders.specs.declared.NotCancelled.TheVariants.{BadSender, UnknownReceiver, NoOrder, NotFound, NotTheirs}
 use Rattle.orders.specs.declared.Order.{Order}
 use Rattle.orders.specs.declared.Orders.{Orders}
 use Rattle.orders.specs.Cancel.{cancel_of as orders_cancelled, after_cancel}
@@ -19,6 +18,7 @@ use Rattle.process.specs.declared.Process.{Process}
 use Rattle.table.specs.declared.configs.Config.{Config}
 use Rattle.table.specs.declared.Table.{Table}
 use Rattle.table.specs.Configuration.{configured_of, receiver_of, sender_of}
+use Rattle.table.specs.Answers.{cancel_answer}
 use Rattle.table.specs.Words.{negative16, negative32}
 use Rattle.calls.specs.Effects.{Effect, number, refuse, done, waking, carrying}
 use Rattle.calls.specs.Levels.{process_at, with_orders, with_scheduler}
@@ -81,14 +81,6 @@ unfoldable pub schedule_of : Table → ℕ → NewOrder → Effect
 schedule_of t caller s =
     called t caller (schedule_checks t.config s (moment_of s.absolute s.time))
     (ordered t (order_of t.clock caller s.receiver (moment_of s.absolute s.time) s))
-
--- 6 PARAMERROR, 1 RECUNKNOWN, 7 NOTASK, 8 NOTFOUND, 6 again
-abbrev pub cancel_answer : NotCancelled → Answer
-cancel_answer BadSender = Answer.ParameterError
-cancel_answer UnknownReceiver = Answer.ReceiverUnknown
-cancel_answer NoOrder = Answer.NoTask
-cancel_answer NotFound = Answer.NotFound
-cancel_answer NotTheirs = Answer.ParameterError
 
 -- or 0 OK
 abbrev pub cancelled_answer : Result Orders NotCancelled → Answer

@@ -3,17 +3,16 @@
 #![tactic(auto)]
 
 ghost use Rattle.std.specs.Prelude.{◌≡◌};
-ghost use Rattle.calls.specs.Effects.{outcome_of};
-ghost use Rattle.timers.specs.Timers.{moment_of, order_of, ordered, schedule_verdict, schedule_of, cancel_answer, cancelled_of, cancel_schedule_of, shutdown_of, start_scheduler_of, read_time_of};
+ghost use Rattle.calls.specs.Effects.{outcome_of, Has};
+ghost use Rattle.timers.specs.Timers.{moment_of, order_of, ordered, schedule_verdict, schedule_of, cancelled_of, cancel_schedule_of, shutdown_of, start_scheduler_of, read_time_of};
 
 use calls::check;
 use day::{BadField, Fields, TimeOfDay};
-use orders::{NotCancelled, Order};
+use orders::Order;
 use process::Condition;
 use process::buffers::Message;
 use table::answers::Answer;
-use table::wakes::Wakes;
-use table::{Outcome, Scheduler, Table, configs};
+use table::{Outcome, Said, Scheduler, Shown, Table, configs, wakes};
 
 // What SCHEDULE is told. Signed numbers are the words of their bits.
 #[derive(Clone, Copy)]
@@ -29,7 +28,7 @@ pub struct NewOrder {
     pub message: Message,
 }
 
-// The 32-bit words of numbers below 0 begin here.
+// The 32-bit words of numbers below 0 begin here, as `configs::NEGATIVE` is in 16 bits.
 const LONG_NEGATIVE: u32 = 2_147_483_648;
 
 // When an order is first to be carried out: at a time of day, one interval from now (None), or never, since a field is out of its range.
@@ -67,16 +66,17 @@ fn order(clock: TimeOfDay, caller: u8, receiver: u8, moment: Moment, new: NewOrd
     }
 }
 
-// An order without fault is entered, if a place is left.
-fn entered(table: Table, order: Order) -> Outcome
-    ensures { result ≡ outcome_of (ordered table order) }
+// An order without fault is entered, if a place is left. (Where the orders change, the two lines stand here and in `cancelled`: a function around
+// them would be named for what they say, and be no shorter.)
+fn entered(table: &mut Table, order: Order) -> Said
+    ensures { Has (ordered table.old order) result table.new }
 {
-    if let Some(orders) = table.orders.accept(table.config.orders as usize, order) {
-        let mut changed = table;
-        changed.orders = orders;
-        calls::answered(changed, Answer::Ok, Wakes::none())
-    } else {
-        table.refused(Answer::TaskListOverflow)
+    match table.orders.accept(table.config.orders as usize, order) {
+        Some(orders) => {
+            table.orders = orders;
+            calls::done()
+        }
+        None => calls::said(Answer::TaskListOverflow, wakes::none()),
     }
 }
 
@@ -107,32 +107,18 @@ pub fn schedule(table: Table, caller: u8, new: NewOrder) -> Outcome
     })
 }
 
-// The answer of a CANCELSCHEDULE that is refused.
-fn cancel_answer(why: NotCancelled) -> Answer
-    ensures { result ≡ cancel_answer why }
-{
-    match why {
-        NotCancelled::BadSender => Answer::ParameterError,
-        NotCancelled::UnknownReceiver => Answer::ReceiverUnknown,
-        NotCancelled::NoOrder => Answer::NoTask,
-        NotCancelled::NotFound => Answer::NotFound,
-        NotCancelled::NotTheirs => Answer::ParameterError,
-    }
-}
-
 // A cancel by a process that may call. Only one that is done changes the table.
-fn cancelled(table: Table, sender: u16, receiver: u16) -> Outcome
-    ensures { result ≡ outcome_of (cancelled_of table sender receiver) }
+fn cancelled(table: &mut Table, sender: u16, receiver: u16) -> Said
+    ensures { Has (cancelled_of table.old sender receiver) result table.new }
 {
     let from = configs::sender(sender);
     let to = table.config.receiver(receiver);
     match table.orders.cancel(from, to) {
         Ok(orders) => {
-            let mut changed = table;
-            changed.orders = orders;
-            calls::answered(changed, Answer::Ok, Wakes::none())
+            table.orders = orders;
+            calls::done()
         }
-        Err(why) => table.refused(cancel_answer(why)),
+        Err(why) => calls::said(why.into(), wakes::none()),
     }
 }
 
@@ -148,9 +134,9 @@ pub fn shutdown(table: Table, caller: u8) -> Outcome
     ensures { result ≡ outcome_of (shutdown_of table caller) }
 {
     let checked = calls::may_call(&table, caller);
-    calls::obeyed(table, checked, |mut table| {
+    calls::obeyed(table, checked, |table| {
         table.scheduler.switch = true;
-        calls::answered(table, Answer::Ok, Wakes::none())
+        calls::done()
     })
 }
 
@@ -163,14 +149,19 @@ pub fn start_scheduler(table: Table) -> Outcome
     };
     let mut changed = table;
     changed.scheduler = started;
-    calls::answered(changed, Answer::Ok, Wakes::none())
+    calls::answered(changed, Answer::Ok, wakes::none())
 }
 
 pub fn read_time(table: Table, caller: u8) -> Outcome
     ensures { result ≡ outcome_of (read_time_of table caller) }
 {
     let checked = calls::may_call(&table, caller);
-    calls::obeyed(table, checked, |table| {
-        calls::with_number(table, table.clock.milliseconds as u64, Wakes::none())
-    })
+    calls::obeyed(
+        table,
+        checked,
+        |table| Said {
+            shown: Shown::Number(table.clock.milliseconds as u64),
+            ..calls::done()
+        },
+    )
 }

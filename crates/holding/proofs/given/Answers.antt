@@ -1,10 +1,7 @@
+use Rattle.std.proofs.Common.{rules}
 use Rattle.holding.specs.Holding.{given_of}
 use Rattle.holding.proofs.given.Goals as goal
 
-pub returns-in-Err : goal.returns-in-Err
+pub returns : goal.returns
 unfolding given_of
-returns-in-Err c = rw (c.alone.ensures, c.empty.ensures, ← c.in-Err.ensures)
-
-pub returns-in-Ok : goal.returns-in-Ok
-unfolding given_of
-returns-in-Ok c = rw (← c.in-Ok.ensures) c.released.ensures
+returns c = rw (← c.checked.ensures, ← c.to_nobody-kept.ensures) (c.ruled.ensures _ (λ decided passed ran. search (rules, ran)))

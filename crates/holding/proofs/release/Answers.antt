@@ -13,7 +13,7 @@ use Rattle.table.specs.declared.Table.{Table}
 use Rattle.table.specs.Wakes.{wakes_of}
 use Rattle.calls.specs.Levels.{process_at, with_processes, with_semaphores}
 use Rattle.calls.specs.Outcomes.{replied_of}
-use Rattle.holding.specs.Holding.{handover_wake, Handed, handed_at, handed_to, handed_to_of, listed_of}
+use Rattle.holding.specs.Holding.{handover_wake, Handed, handed_at, handed_to, handed_to_of}
 use Rattle.holding.proofs.Deciding.{given_all}
 use Rattle.holding.proofs.Handing.{handed, handed_list}
 use Rattle.holding.proofs.release.Goals.{Start, then-level-lt12, else-level-lt12}
@@ -23,12 +23,6 @@ use Rattle.holding.proofs.release.Goals as goal
 whole : (c : Start) → length c.args.table.processes ≡ 12
 whole c = search (rules, of_map)
 
-pub offset_bounds-after-min : goal.offset_bounds-after-min
-offset_bounds-after-min c = omega (arith, c.min.ensures)
-
-pub bounds-after-min : goal.bounds-after-min
-bounds-after-min c = omega (arith, c.min.ensures, whole (goal.at.bounds-after-min c).Start)
-
 pub loop-level-init : goal.loop-level-init
 loop-level-init c = record { places = whole (goal.at.loop-level-init c).Start; others = refl; woken = refl }
 
@@ -37,7 +31,7 @@ unfolding process_at handed_to_of
 loop-level-preserved c =
     let loop = c.loop-level in
     let woken = c.standing-level-items.result.now in
-    let first : Table = with_semaphores c.args.table c.given-given.result.semaphores in
+    let first : Table = with_semaphores c.args.table c.given-given.result.part.semaphores in
     let processes = loop.after.processes in
     let level = get_or woken loop.level-index 0 in
     let turned : c.if-level-lt12.after ≡ with_processes loop.after (handed_at processes level) =
@@ -63,7 +57,7 @@ returns c =
     let loop = c.loop-level in
     let given = c.given-given in
     let table = c.args.table in
-    let first : Table = with_semaphores table given.result.semaphores in
+    let first : Table = with_semaphores table given.result.part.semaphores in
     let woken = c.standing-level-items.result.now in
     let ended : handed loop.after.processes loop.wakes ≡ handed (handed_to first.processes woken) (wakes_of (map handover_wake woken)) =
     sym (ap (fold_of handed_to_of (handed loop.after.processes loop.wakes)) (drop_of_length-le woken {i = loop.level-index} c.loop-level-test.false))
@@ -72,5 +66,4 @@ returns c =
     c.replied.ensures
     ∙ ap (λ (t : Table). replied_of t given.result.answer given.result.shown loop.wakes) loop.invariant.others
     ∙ ap (λ (h : Handed). replied_of (with_processes first h.processes) given.result.answer given.result.shown h.wakes) ended
-    ∙ rw (c.standing-level-items.ensures, given.ensures, c.min.ensures)
-    (given_all table c.args.caller c.args.number _ (whole (goal.at.returns c).Start))
+    ∙ rw (c.standing-level-items.ensures, given.ensures, c.caller_at.ensures) (given_all table c.args.caller c.args.number _ refl)

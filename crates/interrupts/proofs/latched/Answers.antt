@@ -1,50 +1,26 @@
-use mathlib.Core.Path.{◌≡◌, ◌∙◌}
-use native.Mathlib.Omega.{arith}
+use mathlib.Core.Path.{◌≡◌}
 use borrow.Author.Rules.{rules}
 use lib.ListN.{length}
 use Rattle.common.proofs.Lists.{of_map}
+use Rattle.inputs.specs.InputSet.{insert_of}
 use Rattle.calls.specs.Levels.{with_latch}
-use Rattle.calls.proofs.Obeying.{outcome_alone}
+use Rattle.calls.specs.Outcomes.{answered_of}
+use Rattle.calls.proofs.Obeying.{has_of}
 use Rattle.interrupts.specs.Interrupts.{latched_of}
 use Rattle.interrupts.proofs.Deciding.{opened_all}
-use Rattle.interrupts.proofs.latched.Goals.{Start}
+use Rattle.interrupts.proofs.latched.Goals.{After-opened-opened}
 use Rattle.interrupts.proofs.latched.Goals as goal
 
-whole : (c : Start) → length c.args.table.processes ≡ 12
+whole : (c : After-opened-opened) → length c.args.table.now.processes ≡ 12
 whole c = search (rules, of_map)
 
-pub offset_bounds-after-at : goal.offset_bounds-after-at
-offset_bounds-after-at c = omega (arith, c.min-at.ensures)
-
-pub bounds-after-at : goal.bounds-after-at
-bounds-after-at c = omega (arith, c.min-at.ensures, whole (goal.at.bounds-after-at c).Start)
-
-pub offset_bounds-after-at-in-Some : goal.offset_bounds-after-at-in-Some
-offset_bounds-after-at-in-Some c = omega (arith, c.min-at.ensures)
-
-pub bounds-after-at-in-Some : goal.bounds-after-at-in-Some
-bounds-after-at-in-Some c = omega (
-  arith,
-  c.min-at.ensures,
-  whole (goal.at.bounds-after-at-in-Some c).Start,
-)
-
 pub returns-in-Some : goal.returns-in-Some
-unfolding latched_of
+unfolding latched_of answered_of
 returns-in-Some c =
-    let opened = c in
-    let least = opened in
-    let owned = least in
-    let made = owned in
-    let start = made in
-    rw (← made.owner-owner.ensures, owned.in-Some.is, ← made.insert-latch.ensures)
-    (c.answered.ensures
-    ∙ rw (opened.opened-opened.ensures, least.min-at.ensures)
-    (opened_all (with_latch start.args.table made.insert-latch.result) start.args.input _ _ (whole (goal.at.returns-in-Some c).Start)))
+    has_of _ _ _
+    (rw (c.said.ensures, c.opened-opened.ensures, c.place_of-at.ensures, c.insert-table.ensures, ← c.owner.ensures, c.in-Some.is)
+    (opened_all (with_latch c.args.table.now (insert_of c.args.table.now.latch c.args.input)) c.args.input _ _ (whole (goal.at.returns-in-Some c).After-opened-opened)))
 
 pub returns-in-None : goal.returns-in-None
 unfolding latched_of
-returns-in-None c =
-    let made = c in
-    rw (← made.owner-owner.ensures, c.in-None.is, ← made.insert-latch.ensures)
-    (c.answered-in-None.ensures ∙ rw (c.none.ensures, outcome_alone))
+returns-in-None c = record { says = rw (c.done.ensures, ← c.owner.ensures, c.in-None.is); leaves = rw (c.insert-table.ensures, ← c.owner.ensures, c.in-None.is) }

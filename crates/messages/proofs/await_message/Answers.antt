@@ -12,5 +12,5 @@ whole c = search (rules, of_map)
 pub returns : goal.returns
 returns c =
     let table = c.args.table in
-    let same : c.on_record.ensures.0 ≡ awaited_of table.config (looked_at table c.args.caller) c.args.caller = search (rules, c.on_record.ensures.1) in
-    c.on_record.ensures.2 ∙ rw same (awaited_all table c.args.caller _ (whole (goal.at.returns c).Start))
+    let same : c.on_record.ensures.0 ≡ awaited_of table.config (looked_at table c.args.level) c.args.level = search (rules, c.on_record.ensures.1) in
+    c.on_record.ensures.2 ∙ rw same (awaited_all table c.args.level _ (whole (goal.at.returns c).Start))

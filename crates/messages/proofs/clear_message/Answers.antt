@@ -1,5 +1,4 @@
 use Rattle.std.proofs.Common.{rules}
-use Rattle.calls.proofs.Obeying.{outcome_alone}
 use Rattle.messages.specs.Receiving.{clear_message_of}
 use Rattle.messages.proofs.clear_message.Goals as goal
 
@@ -7,4 +6,4 @@ pub returns : goal.returns
 unfolding clear_message_of
 returns c =
     rw (← c.receiver-target.ensures, ← c.named_checked-checked.ensures)
-    (c.obeyed.ensures _ (λ passed r ran. search (rules, outcome_alone)))
+    (c.obeyed.ensures _ (λ lent left said passed is_lent ran. search (rules, is_lent)))

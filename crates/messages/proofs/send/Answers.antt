@@ -6,4 +6,4 @@ pub returns : goal.returns
 unfolding send_of
 returns c =
     rw (← c.receiver-target.ensures, ← c.named_checked-checked.ensures)
-    (c.obeyed.ensures _ (λ passed r ran. search rules))
+    (c.obeyed.ensures _ (λ lent left said passed is_lent ran. search (rules, is_lent)))

@@ -1,17 +1,12 @@
-use Rattle.std.proofs.Common.{◌≡◌, ◌∙◌, length, rules}
-use Rattle.common.proofs.Lists.{of_map}
-use Rattle.calls.specs.Decisions.{looked_at}
+use Rattle.std.proofs.Common.{◌≡◌, ◌∙◌, refl, rules}
+use Rattle.calls.specs.Levels.{process_of}
 use Rattle.pooling.specs.Deciding.{stated_by}
 use Rattle.pooling.proofs.Deciding.{check_all}
-use Rattle.pooling.proofs.pool_check.Goals.{Start}
 use Rattle.pooling.proofs.pool_check.Goals as goal
-
-whole : (c : Start) → length c.args.table.processes ≡ 12
-whole c = search (rules, of_map)
 
 pub returns : goal.returns
 returns c =
     let args = c.args in
     let table = args.table in
-    let same : c.on_pool.ensures.0 ≡ stated_by table.config (looked_at table args.caller) table.pool args.caller args.stated = search (rules, c.on_pool.ensures.1) in
-    c.on_pool.ensures.2 ∙ rw same (check_all table args.caller _ (whole (goal.at.returns c).Start) args.stated)
+    let same : c.on_pool.ensures.0 ≡ stated_by table.config (process_of table args.caller) table.pool args.caller args.stated = search (rules, c.on_pool.ensures.1) in
+    c.on_pool.ensures.2 ∙ rw same (check_all table args.caller _ refl args.stated)

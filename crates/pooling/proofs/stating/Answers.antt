@@ -1,10 +1,7 @@
+use Rattle.std.proofs.Common.{rules}
 use Rattle.pooling.specs.Deciding.{stated_by}
 use Rattle.pooling.proofs.stating.Goals as goal
 
-pub returns-in-Err : goal.returns-in-Err
+pub returns : goal.returns
 unfolding stated_by
-returns-in-Err c = rw (c.alone.ensures, ← c.in-Err.ensures)
-
-pub returns-in-Ok : goal.returns-in-Ok
-unfolding stated_by
-returns-in-Ok c = rw (c.alone-in-Ok.ensures, c.state.ensures, ← c.in-Ok.ensures)
+returns c = rw (← c.stating_checked-checked.ensures) (c.ruled.ensures _ (λ decided passed ran. search (rules, ran)))

@@ -15,8 +15,6 @@ use Rattle.orders.specs.Orders.{standing_of}
 use Rattle.orders.specs.Advance.{due_at, next_due, next_due_of}
 use Rattle.orders.proofs.Places.{changed_before, left_before, left_fewer, length_without_place}
 use Rattle.orders.proofs.Walks.{next_behind}
-use Rattle.posting.specs.Posting.{is_handed}
-use Rattle.process.specs.declared.Delivery.{Delivery}
 use Rattle.table.specs.Sound.{no_order}
 use Rattle.calls.specs.Outcomes.{carries_number}
 use Rattle.ticking.specs.Ticking.{ticks_of}
@@ -28,41 +26,39 @@ use Rattle.ticking.proofs.running_on.Goals as goal
 whole : (c : Start) → length c.args.table.processes ≡ 12
 whole c = search (rules, of_map)
 
-long : (c : Start) → length c.args.table.orders.places ≡ 64
+long : (c : Start) → length c.args.table.orders.list.items ≡ 64
 long c = search (rules, of_map)
 
 -- where it is due for a level that there is, that is one of the processes
-within : (c : Then-is_due-receiver) → (get_or c.loop-left.orders.places c.loop-left.at no_order).receiver < 12
+within : (c : Then-is_due-receiver) → (get_or c.loop-left.orders.list.items c.loop-left.at no_order).receiver < 12
 within c =
-    let receiver = (get_or c.loop-left.orders.places c.loop-left.at no_order).receiver in
+    let receiver = (get_or c.loop-left.orders.list.items c.loop-left.at no_order).receiver in
     ltb-true receiver 12 (both_true c.is_due-is_due.result (ltb receiver 12) c.if-is_due-receiver.true).1
 
 -- its message reaches whom it should, and wakes whom it should
 served : (c : After-one_if)
-    → let loop = c.loop-left in let places = c.args.table.config.places in let order : Order = get_or loop.orders.places loop.at no_order in
+    → let loop = c.loop-left in let places = c.args.table.config.places in let order : Order = get_or loop.orders.list.items loop.at no_order in
     (c.if-is_due-receiver.processes ≡ processes_after places loop.clock order loop.processes)
     × (c.if-is_due-receiver.wakes ≡ wakes_after places loop.clock order loop.processes loop.wakes)
 served c =
     let loop = c.loop-left in
     let places = c.args.table.config.places in
-    let order = get_or loop.orders.places loop.at no_order in
+    let order = get_or loop.orders.list.items loop.at no_order in
     let due : (b : Bool) → c.is_due-is_due.result && ltb order.receiver 12 ≡ b → due_at loop.clock order && ltb order.receiver 12 ≡ b =
     λ b holds. ap (λ d. d && ltb order.receiver 12) (sym c.is_due-is_due.ensures) ∙ holds in
     elim c.if-is_due-receiver.branch [
-      | then-is_due-receiver+then-is_handed w ↦ (
-        w.processes-is
-            ∙ rw w.delivered-delivery.ensures (served_record places loop.clock order loop.processes _ loop.invariant.0 (due true w.if-is_due-receiver.true)),
-        w.wakes-is ∙ w.pushed-wakes.ensures
-            ∙ rw w.delivered-delivery.ensures
-            (served_wakes places loop.clock order loop.processes _ loop.invariant.0 (due true w.if-is_due-receiver.true) loop.wakes),
-      )
-      | then-is_due-receiver+else-is_handed w ↦ (
-        w.processes-is
-            ∙ rw w.delivered-delivery.ensures (served_record places loop.clock order loop.processes _ loop.invariant.0 (due true w.if-is_due-receiver.true)),
-        w.wakes-is
-            ∙ served_quiet places loop.clock order loop.processes _ loop.invariant.0 (due true w.if-is_due-receiver.true) loop.wakes
-            (sym (ap (λ (d : Delivery). is_handed d.fate) w.delivered-delivery.ensures) ∙ sym w.is_handed.ensures ∙ w.if-is_handed.false),
-      )
+      | then-is_due-receiver+then-is_handed w ↦
+          let due = due true w.if-is_due-receiver.true in (
+            w.processes-is ∙ served_record places loop.clock order loop.processes _ loop.invariant.0 due _ _ w.deliver-fate.ensures,
+            w.wakes-is ∙ w.pushed-wakes.ensures ∙ served_wakes places loop.clock order loop.processes _ loop.invariant.0 due _ _ w.deliver-fate.ensures loop.wakes,
+          )
+      | then-is_due-receiver+else-is_handed w ↦
+          let due = due true w.if-is_due-receiver.true in (
+            w.processes-is ∙ served_record places loop.clock order loop.processes _ loop.invariant.0 due _ _ w.deliver-fate.ensures,
+            w.wakes-is
+                ∙ served_quiet places loop.clock order loop.processes _ loop.invariant.0 due _ _ w.deliver-fate.ensures loop.wakes
+                (sym w.is_handed.ensures ∙ w.if-is_handed.false),
+          )
       | else-is_due-receiver w ↦ (
         w.processes-is ∙ unserved_record places loop.clock order loop.processes loop.invariant.0 (due false w.if-is_due-receiver.false),
         w.wakes-is ∙ unserved_wakes places loop.clock order loop.processes loop.invariant.0 (due false w.if-is_due-receiver.false) loop.wakes,
@@ -72,7 +68,7 @@ served c =
 served_whole : (c : After-one_if) → length c.if-is_due-receiver.processes ≡ 12
 served_whole c =
     let loop = c.loop-left in
-    ap length (served c).0 ∙ length_after c.args.table.config.places loop.clock (get_or loop.orders.places loop.at no_order) loop.processes ∙ loop.invariant.0
+    ap length (served c).0 ∙ length_after c.args.table.config.places loop.clock (get_or loop.orders.list.items loop.at no_order) loop.processes ∙ loop.invariant.0
 
 few : (b : Bool) → pick b 1 0 ≤ 1
 few b = by_pick (λ n. n ≤ 1) b 1 0 (omega arith) (omega arith)
@@ -105,7 +101,7 @@ pub loop-left-init : goal.loop-left-init
 unfolding next_due_of
 loop-left-init c =
     let start = c in
-    let all : min start.args.table.orders.count 64 ≤ c.min-standing.result = omega (arith, c.min-standing.ensures) in (
+    let all : min start.args.table.orders.list.count 64 ≤ c.min-standing.result = omega (arith, c.min-standing.ensures) in (
       whole (goal.at.loop-left-init c).Start,
       long (goal.at.loop-left-init c).Start,
       c.min-standing.ensures,
@@ -143,10 +139,10 @@ loop-left-preserved-in-Some c =
     let start = c in
     let here = c.if-at-standing.true in
     let next = c.in-Some.next in
-    let stands : loop.at < min loop.orders.count 64 = omega (arith, loop.invariant.2, here) in
+    let stands : loop.at < min loop.orders.list.count 64 = omega (arith, loop.invariant.2, here) in
     let reaches = served (goal.at.loop-left-preserved-in-Some c).After-one_if in (
       served_whole (goal.at.loop-left-preserved-in-Some c).After-one_if,
-      length-set loop.orders.places loop.at _ ∙ loop.invariant.1,
+      length-set loop.orders.list.items loop.at _ ∙ loop.invariant.1,
       loop.invariant.2,
       omega (arith, here),
       c.min-nearest.ensures
@@ -167,11 +163,11 @@ loop-left-preserved-in_default c =
     let start = c in
     let here = c.if-at-standing.true in
     let left = c.without_place-orders.ensures in
-    let stands : loop.at < min loop.orders.count 64 = omega (arith, loop.invariant.2, here) in
+    let stands : loop.at < min loop.orders.list.count 64 = omega (arith, loop.invariant.2, here) in
     let reaches = served (goal.at.loop-left-preserved-in_default c).After-one_if in (
       served_whole (goal.at.loop-left-preserved-in_default c).After-one_if,
-      ap (λ (o : Orders). length o.places) left ∙ length_without_place loop.at loop.orders,
-      ap (λ n. n - 1) loop.invariant.2 ∙ sym (ap (λ (o : Orders). min o.count 64) left ∙ left_fewer loop.orders loop.at loop.invariant.1 stands),
+      ap (λ (o : Orders). length o.list.items) left ∙ length_without_place loop.at loop.orders,
+      ap (λ n. n - 1) loop.invariant.2 ∙ sym (ap (λ (o : Orders). min o.list.count 64) left ∙ left_fewer loop.orders loop.at loop.invariant.1 stands),
       omega (arith, here),
       loop.invariant.4
           ∙ ap (next_due loop.clock)
@@ -203,7 +199,7 @@ loop-left-preserved c =
     let loop = c.loop-left in
     let start = c in
     let passed = c.min-passed in
-    let all : min loop.orders.count 64 ≤ loop.at = omega (arith, loop.invariant.2, c.if-at-standing.false) in
+    let all : min loop.orders.list.count 64 ≤ loop.at = omega (arith, loop.invariant.2, c.if-at-standing.false) in
     let near = loop.invariant.4 ∙ ap (next_due loop.clock) (taken_all loop.orders loop.at all) in
     let within = reached (goal.at.loop-left-preserved c).After-min-passed in
     let before : passed.result < next_due loop.clock (standing_of loop.orders) = omega (arith, passed.ensures, near, next_later loop.clock (standing_of loop.orders)) in (
@@ -223,7 +219,7 @@ returns c =
     let loop = c.loop-left in
     let start = c in
     let over = ends loop.left loop.at loop.standing c.loop-left-test.false in
-    let all : min loop.orders.count 64 ≤ loop.at = omega (arith, loop.invariant.2, over.1) in
+    let all : min loop.orders.list.count 64 ≤ loop.at = omega (arith, loop.invariant.2, over.1) in
     let orders : c.if-carried-gt0.orders ≡ orders_after loop.carried loop.orders (standing_of loop.orders) =
     elim c.if-carried-gt0.branch [
       | then-carried-gt0 w ↦

@@ -13,8 +13,8 @@ use Rattle.ticking.proofs.running_on.Given as goal
 abbrev pub invariant-loop-left : goal.invariant-loop-left
 invariant-loop-left l =
     (length l.processes ≡ 12)
-    × (length l.orders.places ≡ 64)
-    × (l.standing ≡ min l.orders.count 64)
+    × (length l.orders.list.items ≡ 64)
+    × (l.standing ≡ min l.orders.list.count 64)
     × (l.at ≤ l.standing)
     × (l.nearest ≡ next_due l.clock (take l.at (standing_of l.orders)))
     × (l.carried + 64 * l.left + (l.standing - l.at) ≤ 64 * l.count)

@@ -1,5 +1,4 @@
 use mathlib.Core.Path.{◌∙◌, ap, sym}
-use Rattle.table.specs.Wakes.{no_wakes_of}
 use Rattle.calls.specs.Effects.{outcome_of}
 use Rattle.calls.proofs.Obeying.{outcome_number}
 use Rattle.ticking.specs.Ticking.{run_effect}
@@ -11,7 +10,6 @@ pub running_on-requires : goal.running_on-requires
 running_on-requires c = no_lull_runs _ _ _ _ (sym c.in_default.ensures)
 
 pub returns-in-Some : goal.returns-in-Some
-unfolding no_wakes_of
 returns-in-Some c =
     let args = c.args in
     c.with_number.ensures

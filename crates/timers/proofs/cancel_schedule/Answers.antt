@@ -4,4 +4,4 @@ use Rattle.timers.proofs.cancel_schedule.Goals as goal
 
 pub returns : goal.returns
 unfolding cancel_schedule_of
-returns c = rw (← c.may_call-checked.ensures) (c.obeyed.ensures _ (λ passed r ran. search rules))
+returns c = rw (← c.may_call-checked.ensures) (c.obeyed.ensures _ (λ lent left said passed is_lent ran. search (rules, is_lent)))

@@ -1,12 +1,12 @@
-use mathlib.Core.Path.{◌∙◌}
-use Rattle.calls.proofs.Obeying.{outcome_alone, outcome_refuse}
+use mathlib.Core.Path.{refl}
+use Rattle.table.specs.Wakes.{no_wakes_of}
 use Rattle.timers.specs.Timers.{ordered}
 use Rattle.timers.proofs.entered.Goals as goal
 
 pub returns-in-Some : goal.returns-in-Some
 unfolding ordered
-returns-in-Some c = rw (← c.in-Some.ensures) (c.answered.ensures ∙ rw (c.none.ensures, outcome_alone))
+returns-in-Some c = rw (← c.in-Some.ensures) (record { says = c.done.ensures; leaves = refl })
 
-pub returns-in_default : goal.returns-in_default
+pub returns-in-None : goal.returns-in-None
 unfolding ordered
-returns-in_default c = rw (← c.in_default.ensures, outcome_refuse) c.refused.ensures
+returns-in-None c = rw (← c.in-None.ensures) (record { says = rw (c.said.ensures, c.none.ensures); leaves = refl })

@@ -13,4 +13,4 @@ pub returns : goal.returns
 unfolding schedule_of
 returns c =
     rw (← c.moment_of-moment.ensures, ← c.schedule_checked-checked.ensures)
-    (c.obeyed.ensures _ (λ passed r ran. search rules))
+    (c.obeyed.ensures _ (λ lent left said passed is_lent ran. search (rules, is_lent)))

@@ -3,4 +3,4 @@ use Rattle.posting.proofs.Posting.begin.Goals as goal
 
 pub returns : goal.returns
 unfolding begin_of
-returns c = rw c.none.ensures
+returns c = λ processes. rw c.none.ensures

@@ -1,18 +1,15 @@
-use Rattle.std.proofs.Common.{◌≡◌, ◌∙◌, arith}
+use Rattle.std.proofs.Common.{◌∙◌, sym, arith}
 use Rattle.semaphores.specs.Semaphores.{holds_of, holder_of}
-use Rattle.semaphores.proofs.Numbers.{usable_below, checked_usable, checked_unusable}
+use Rattle.semaphores.proofs.Numbers.{usable_below}
 use Rattle.semaphores.proofs.Semaphores.holds.Goals as goal
 
 pub bounds-self-from : goal.bounds-self-from
-bounds-self-from c = let passed = checked_usable _ _ c.in-Ok.ensures in omega (arith, usable_below _ passed.0, passed.1, c.from.ensures)
+bounds-self-from c = omega (arith, usable_below _ (sym c.usable.ensures ∙ c.if-usable.true), c.from.ensures)
 
-pub returns-in-Ok : goal.returns-in-Ok
+pub returns-then-usable : goal.returns-then-usable
 unfolding holds_of holder_of
-returns-in-Ok c =
-    let passed = checked_usable _ _ c.in-Ok.ensures in
-    let at : c.from.result ≡ c.args.number = c.from.ensures ∙ passed.1 in
-    rw (at, passed.0)
+returns-then-usable c = rw (c.from.ensures, ← c.usable.ensures, c.if-usable.true)
 
-pub returns-in-Err : goal.returns-in-Err
+pub returns-else-usable : goal.returns-else-usable
 unfolding holds_of
-returns-in-Err c = rw (checked_unusable _ _ c.in-Err.ensures)
+returns-else-usable c = rw (← c.usable.ensures, c.if-usable.false)

@@ -11,10 +11,10 @@ pub returns : goal.returns
 unfolding orders_sound
 returns c =
     let orders = c.args.orders.now in
-    let long : length orders.places ≡ 64 = search (rules, of_map) in
+    let long : length orders.list.items ≡ 64 = search (rules, of_map) in
     let every_order : c.all-all.result ≡ _ =
     all_from_yields_List (order_sound c.args.config) _ _ c.all-all.result c.all-all.ensures.ran
-    (YieldsList-from_take orders.count (YieldsList-at c.take.ensures.source (YieldsList-from_slice orders.places c.iter.ensures.rest)) c.take.ensures.count)
+    (YieldsList-from_take orders.list.count (YieldsList-at c.take.ensures.source (YieldsList-from_slice orders.list.items c.iter.ensures.rest)) c.take.ensures.count)
     (λ x b q k. search (rules, tests))
-    ∙ all_first (order_sound c.args.config) no_order orders.places orders.count in
+    ∙ all_first (order_sound c.args.config) no_order orders.list.items orders.list.count in
     rw (every_order, long, c.from.ensures)

@@ -1,10 +1,10 @@
-use mathlib.Core.Path.{sym}
+use mathlib.Core.Path.{refl}
 use native.Mathlib.Omega.{arith}
 use Rattle.process.proofs.Places.{put_room, put_full}
 use Rattle.process.proofs.buffers.Buffer.put.Goals as goal
 
 pub returns-then-self-min : goal.returns-then-self-min
-returns-then-self-min c = sym (put_full _ _ _ (omega arith))
+returns-then-self-min c = (put_full _ _ _ (omega arith), refl, refl)
 
 pub returns : goal.returns
-returns c = sym (put_room _ _ _ (omega arith))
+returns c = rw c.put.ensures (put_room _ _ _ (omega arith))
