@@ -185,6 +185,7 @@ pub fn place_of(level: u16) -> usize
 
 // A call that changes the record at a level, and nothing else of the table. What it comes to is decided on small parts, and the table is changed
 // in place: it is copied once in and once out.
+// (The closure takes the two parts and no `Caller`: START calls it with a level of 16 bits, and nobody calls START.)
 pub fn on_record<F: FnOnce(Config, Process) -> Decided<Process>>(
     table: Table,
     level: u16,

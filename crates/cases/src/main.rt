@@ -230,6 +230,7 @@ fn at(milliseconds: u32) -> TimeOfDay {
     TimeOfDay { milliseconds }
 }
 
+// Document 01's cases, one line each, as they stand there.
 fn main(rt: HostRuntime) {
     usable(&rt, 31);
     usable(&rt, 50);

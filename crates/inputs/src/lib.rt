@@ -71,7 +71,7 @@ impl InputSet {
     }
 
     // The set whose words are those that an operator makes of the words of two sets. The four are written out: by `array::from_fn`, as in `below`, it
-    // proves, and logs of mixed calls take 2 to 4 percent longer.
+    // would be no plainer, and logs of mixed calls take 2 to 4 percent longer.
     fn combined<F: Fn(u64, u64) -> u64>(self, other: InputSet, operator: F) -> InputSet
         requires { F.IsAlwaysCallable operator }
         ensures { EachIndex result.words (λ at. F.post operator (slice_index self.words at) (slice_index other.words at) (slice_index result.words at)) }

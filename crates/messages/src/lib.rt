@@ -187,7 +187,7 @@ pub fn await_message(table: Table, level: u8) -> Outcome
     })
 }
 
-// Every configured level's buffer is emptied.
+// Every configured level's buffer is emptied. (By index: nothing is known of what is written through an element that is lent.)
 fn all_cleared(config: Config, mut processes: [Process; 12]) -> [Process; 12]
     ensures { result ≡ cleared_for config All processes }
 {

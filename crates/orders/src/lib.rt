@@ -67,7 +67,7 @@ impl NotCancelled {
     }
 }
 
-// The answer number of CANCELSCHEDULE: 0 where it is done.
+// The answer number of CANCELSCHEDULE: 0 where it is done. (docs/PROMISES.md promises it.)
 pub fn cancelled_number(cancelled: Result<(), NotCancelled>) -> u8
     ensures { result ≡ cancelled_number cancelled }
 {
@@ -180,7 +180,7 @@ impl Orders {
     pub fn accept(mut self, places: usize, order: Order) -> Option<Orders>
         ensures { result ≡ accept_of self places order }
     {
-        // No `then`: tried, it proves, and logs of orders take some 1 percent longer, since its closure can't put into what is at hand.
+        // No `then`: its closure can't put into what is at hand, and so copies the orders once more. No plainer.
         if self.list.count < places.min(MOST_ORDERS) {
             self.list.put(order);
             Some(self)

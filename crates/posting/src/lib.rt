@@ -70,6 +70,7 @@ fn mark(origin: Origin, fate: Fate, process: &mut Process)
 
 // A message at its receiver, with the mark that it leaves where it is lost. Condition and message go side by side wherever a message goes: hosts hand them
 // over apart, and definitions and laws take them apart, so a struct of the two would be packed at each call for each contract to unpack: no plainer.
+// (Origin and places are what the caller of each knows.)
 pub fn deliver(
     origin: Origin,
     places: usize,
@@ -122,6 +123,7 @@ impl Posting {
         ensures { delivered_in processes.new self.new ≡ step_of origin places (delivered_in processes.old self.old) (letter receiver condition message) }
     {
         let fate = if receiver < 12 {
+            // No `&mut processes[..]` lent on: tried, and the proof didn't close, since it doesn't say what the element ends as.
             let mut process = processes[receiver as usize];
             let fate = deliver(origin, places, condition, message, &mut process);
             processes[receiver as usize] = process;

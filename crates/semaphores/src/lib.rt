@@ -68,7 +68,7 @@ impl From<Unusable> for NotReleased {
     }
 }
 
-// The answer number of REQSEMA.
+// The answer number of REQSEMA. (It and RELSEMA's are promised by docs/PROMISES.md.)
 pub fn request_number(requested: Result<Requested, Unusable>) -> u8
     ensures { result ≡ requested_number requested }
 {

@@ -18,8 +18,8 @@ pub struct Lull {
 }
 
 // So many ticks of a scheduler that runs on. A turn of the loop is one order of a moment, in order of acceptance, or, when all of them are through, the way to
-// the next moment at which one is due: quiet ticks are not walked. The loop writes into the arrays themselves; a function around a turn would copy
-// them for each order.
+// the next moment at which one is due: quiet ticks are not walked. The loop writes into the arrays themselves. Not through
+// `Posting::post`, which asks whether a buffer was full, and serves levels that there are not: no plainer.
 fn running_on(table: Table, count: u32) -> Outcome
     requires { (table.scheduler.running ≡ true) × (table.scheduler.switch ≡ false) }
     ensures { result ≡ outcome_of (run_effect (ticks_of count table)) }
@@ -139,14 +139,10 @@ fn is_lull(scheduler: Scheduler, orders: Orders, clock: TimeOfDay, count: u32) -
 pub fn lull_of(scheduler: Scheduler, orders: Orders, clock: TimeOfDay, count: u32) -> Option<Lull>
     ensures { result ≡ lull_of scheduler orders clock count }
 {
-    if is_lull(scheduler, orders, clock, count) {
-        Some(Lull {
-            clock: clock_after(clock, count),
-            scheduler: scheduler_after(scheduler, count),
-        })
-    } else {
-        None
-    }
+    is_lull(scheduler, orders, clock, count).then(|| Lull {
+        clock: clock_after(clock, count),
+        scheduler: scheduler_after(scheduler, count),
+    })
 }
 
 // One tick.

@@ -46,7 +46,8 @@ fn moment_of(absolute: bool, time: Fields) -> Moment
     }
 }
 
-// The order as it is entered, with the moment at which it is first due.
+// The order as it is entered, with the moment at which it is first due. (It is made where the moment passed its check; what stands for another one is never
+// used.)
 fn order(clock: TimeOfDay, caller: u8, receiver: u8, moment: Moment, new: NewOrder) -> Order
     ensures { result ≡ order_of clock caller receiver moment new }
 {
@@ -81,6 +82,7 @@ fn entered(table: &mut Table, order: Order) -> Said
 }
 
 // The checks of SCHEDULE, but for the last, which is whether a place is left.
+#[tactic(auto, unfolding(calls::specs::Verdicts::also_of))]
 fn schedule_checked(table: &Table, caller: u8, new: NewOrder, moment: Moment) -> Result<(), Answer>
     ensures { result ≡ schedule_verdict table.now.config table.now.processes caller new moment }
 {
@@ -140,6 +142,7 @@ pub fn shutdown(table: Table, caller: u8) -> Outcome
     })
 }
 
+// (What is started is said again in settling: the edit `the_switch_survives_a_start` is of this one.)
 pub fn start_scheduler(table: Table) -> Outcome
     ensures { result ≡ outcome_of (start_scheduler_of table) }
 {
