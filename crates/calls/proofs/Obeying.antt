@@ -64,4 +64,4 @@ pub last_passed : (v : Checked) (holds : Bool) (answer : Answer) → also_of v h
 unfolding also_of
 last_passed (Ok tt) true answer passed = (refl, refl)
 last_passed (Ok tt) false answer passed = absurd (first_refused answer passed)
-last_passed (Err first) holds answer passed = absurd (first_refused first passed)
+last_passed (Err first) holds answer passed = absurd (first_refused _ passed)

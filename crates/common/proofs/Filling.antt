@@ -4,10 +4,10 @@ use mathlib.Core.List.{List, [], ◌∷◌, ◌++◌}
 use Prim.Native.Nat.{ℕ, zero, suc, ◌+◌, ◌<◌, ◌≤◌, min}
 use native.Mathlib.Omega.{arith}
 use lib.Dec.{ltb}
-use lib.ListN.{length, replicate, length-set, length-take}
+use lib.ListN.{length, set, replicate, length-set, length-take}
 use lib.Seq.{append_snoc, take-suc-set}
 use mathlib.Core.List.{append-nil}
-use borrow.Author.Tests.{lt-ltb}
+use borrow.Author.Tests.{lt-ltb, le-ltb}
 use Rattle.common.specs.Fold.{fold_of}
 use Rattle.common.specs.Packing.{packed_of}
 use Rattle.common.specs.Filled.{items_of, filled_of, pushed_of}
@@ -40,7 +40,17 @@ module _ {T : Type 0} (N : ℕ) where
       let same : min f.count N ≡ f.count = omega arith in
       rw (lt-ltb _ _ room) (rw (more, same) (take-suc-set f.items f.count x (omega arith)))
 
-  -- and the count is one more
+  -- of the record as it lies in memory: the item stands in the first free place, and the count is one more
+  pub push_room : (f : Filled T N) (x : T) → f.count < N → pushed_of N f x ≡ record { items = set f.items f.count x; count = f.count + 1 }
+  unfolding pushed_of
+  push_room f x room = rw (lt-ltb _ _ room)
+
+  -- where all places are taken the record stays as it is
+  pub push_full : (f : Filled T N) (x : T) → N ≤ f.count → pushed_of N f x ≡ f
+  unfolding pushed_of
+  push_full f x full = rw (le-ltb _ _ full)
+
+  -- where there is room the count is one more
   pub push_count : (f : Filled T N) (x : T) → f.count < N → (pushed_of N f x).count ≡ f.count + 1
   unfolding pushed_of
   push_count f x room = rw (lt-ltb _ _ room)

@@ -28,7 +28,7 @@ fn below(limit: u16) -> InputSet
     ensures { result ≡ below_of limit }
 {
     InputSet {
-        words: array::from_fn(|at| word::below(limit, at)),
+        words: array::from_fn(|at| word::below(limit, at as u16)),
     }
 }
 

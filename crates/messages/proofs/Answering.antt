@@ -5,12 +5,13 @@ use mathlib.Core.List.{List, [], ◌∷◌}
 use Prim.Native.Nat.{ℕ, ◌<◌}
 use native.Mathlib.Omega.{arith}
 use lib.ListN.{length, get_or, set}
+use lib.Seq.{set-get_or}
 use borrow.Author.Tests.{eq-eqb, ne_eqb}
 use Rattle.common.specs.Filled.{filled_of, pushed_of}
 use Rattle.common.proofs.Cases.{by_test, never_both}
 use Rattle.process.specs.declared.Condition.{Condition}
 use Rattle.process.specs.declared.Condition.TheVariants.{Always, Waiting}
-use Rattle.process.specs.Process.{Delivery}
+use Rattle.process.specs.Process.{Delivery, handed_of}
 use Rattle.process.specs.declared.Fate.{Fate}
 use Rattle.process.specs.declared.Fate.TheVariants.{Handed, Stored, NotWaiting, Full}
 use Rattle.process.specs.declared.Process.{Process}
@@ -27,10 +28,10 @@ use Rattle.calls.specs.Levels.{with_processes}
 use Rattle.calls.specs.Outcomes.{answered_of}
 use Rattle.calls.proofs.Obeying.{outcome_refuse, outcome_waking}
 use Rattle.posting.specs.declared.Origin.TheVariants.{Sent}
-use Rattle.posting.specs.Posting.{Posted, letter, is_handed, is_full, delivered_to, pushed_for, begin_of, posting_of, Delivered}
+use Rattle.posting.specs.Posting.{Posted, letter, is_handed, is_full, marked_by, delivered_to, pushed_for, begin_of, posting_of, Delivered}
 use Rattle.posting.proofs.Letters.{posts_begin}
 use Rattle.posting.proofs.Stepping.{step_within, pushed_none}
-use Rattle.messages.proofs.Broadcasts.{nobody_waited}
+use Rattle.posting.proofs.Waking.{waits, deliver_waits, deliver_keeps}
 use Rattle.messages.specs.Sending.{send_posted, sent_by, sent_of, sent_answer}
 
 -- where no place of the wakes is taken, nobody wakes
@@ -49,13 +50,21 @@ none_there [] none = refl
 none_there (w ∷ l) none = absurd (omega (arith, none))
 
 module _ (t : Table) (condition : Condition) (p : Delivered) (posted : Posted) (same : p ≡ posting_of posted) where
-  -- WAITING, and nobody waited: then the processes are as they were
-  pub waiting_none : condition ≡ Waiting → p.wakes.count ≡ 0 → (posted.wakes ≡ [] → posted.processes ≡ t.processes)
+  -- WAITING, and nobody waited
+  pub waiting_none : condition ≡ Waiting → p.wakes.count ≡ 0 → refused_of t ReceiverNotReady ≡ outcome_of (sent_by condition t posted)
+  unfolding posting_of
+  waiting_none waiting none =
+      rw (waiting, eq-eqb (length posted.wakes) 0 (wakes_none posted.wakes (sym (ap (λ (x : Delivered). x.wakes.count) same) ∙ none)))
+      (sym (outcome_refuse t ReceiverNotReady))
+
+  -- then the processes are as they were, and so is the table that is left
+  pub waiting_kept : condition ≡ Waiting → p.wakes.count ≡ 0 → (posted.wakes ≡ [] → posted.processes ≡ t.processes)
       → refused_of (with_processes t p.processes) ReceiverNotReady ≡ outcome_of (sent_by condition t posted)
   unfolding posting_of
-  waiting_none waiting none kept =
+  waiting_kept waiting none kept =
       let nobody = wakes_none posted.wakes (sym (ap (λ (x : Delivered). x.wakes.count) same) ∙ none) in
-      rw (waiting, eq-eqb (length posted.wakes) 0 nobody, same, kept (none_there posted.wakes nobody)) (sym (outcome_refuse t ReceiverNotReady))
+      ap (λ (left : List Process). refused_of (with_processes t left) ReceiverNotReady) (ap (λ (x : Delivered). x.processes) same ∙ kept (none_there posted.wakes nobody))
+      ∙ waiting_none waiting none
 
   -- WAITING, and somebody waited
   pub waiting_some : condition ≡ Waiting → (p.wakes.count ≡ 0 → ⊥) → answered_of (with_processes t p.processes) Ok p.wakes ≡ outcome_of (sent_by condition t posted)
@@ -79,6 +88,14 @@ module _ (t : Table) (condition : Condition) (p : Delivered) (posted : Posted) (
       (outcome_waking (with_processes t posted.processes) Ok posted.wakes)
 
 -- ---- one receiver
+
+-- where WAITING finds nobody waiting, the record stays as it is
+unserved : (p : Process) (places : ℕ) (m : Message) → is_handed (delivered_to Sent places Waiting m p).fate ≡ false → (delivered_to Sent places Waiting m p).process ≡ p
+unfolding delivered_to marked_by handed_of
+unserved p places m not =
+    by_test (waits p)
+    (λ waiting. absurd (never_both (rw (deliver_waits p Waiting places m waiting)) not))
+    (λ other. rw (deliver_keeps p Waiting places m other))
 
 -- a message that is handed over wakes somebody
 handed_some : (level : ℕ) (fate : Fate) (m : Message) → is_handed fate ≡ true → (pushed_for no_wakes_of level fate m).count ≡ 0 → ⊥
@@ -127,6 +144,5 @@ module _ (t : Table) (level : ℕ) (m : Message) (d : Process) (twelve : length 
   sent_one Waiting =
       by_test (is_handed (delivered_as Waiting).fate)
       (λ handed. rw handed (waiting_some t Waiting (posting_as Waiting) (posted_as Waiting) (posted_one Waiting) refl (handed_some level (delivered_as Waiting).fate m handed)))
-      (λ not. rw (not, pushed_none no_wakes_of level (delivered_as Waiting).fate m not)
-      (waiting_none t Waiting (posting_as Waiting) (posted_as Waiting) (posted_one Waiting) refl (handed_none level (delivered_as Waiting).fate m not)
-      (nobody_waited t.config (Level level) m t.processes)))
+      (λ not. rw (not, unserved (get_or t.processes level d) t.config.places m not, set-get_or, pushed_none no_wakes_of level (delivered_as Waiting).fate m not)
+      (waiting_none t Waiting (posting_as Waiting) (posted_as Waiting) (posted_one Waiting) refl (handed_none level (delivered_as Waiting).fate m not)))

@@ -1,7 +1,7 @@
 // Timer orders: the moments at which a message is to be delivered, in order of acceptance.
 #![tactic(auto)]
 
-ghost use Rattle.std.specs.Prelude.{◌≡◌, ℕ, Bool};
+ghost use Rattle.std.specs.Prelude.{◌≡◌, ℕ, Bool, Some, None, MatchResult};
 ghost use Rattle.orders.specs.Moments.{interval_of, delay_of};
 ghost use Rattle.orders.specs.declared.Order.{Order};
 ghost use Rattle.orders.specs.Orders.{none_of, standing_of, orders_of, kept_from, Decides, accept_of};
@@ -175,17 +175,28 @@ impl Orders {
         }
     }
 
-    // The order as the last one, if one of so many places is left.
+    // The order as the last one, if one of so many places is left; else it comes back, and those that stand are as they were. In place: a table's orders
+    // are two kilobytes.
     #[tactic(auto, unfolding(crate::specs::Orders::accept_of))]
+    pub fn enter(&mut self, places: usize, order: Order) -> Result<(), Order>
+        ensures { MatchResult result (λ _. accept_of self.old places order ≡ Some self.new)
+            (λ back. (accept_of self.old places order ≡ None) × (self.new ≡ self.old) × (back ≡ order)) }
+    {
+        if self.list.count < places.min(MOST_ORDERS) {
+            self.list.put(order);
+            Ok(())
+        } else {
+            Err(order)
+        }
+    }
+
+    // The same for who holds the orders by value.
     pub fn accept(mut self, places: usize, order: Order) -> Option<Orders>
         ensures { result ≡ accept_of self places order }
     {
-        // No `then`: its closure can't put into what is at hand, and so copies the orders once more. No plainer.
-        if self.list.count < places.min(MOST_ORDERS) {
-            self.list.put(order);
-            Some(self)
-        } else {
-            None
+        match self.enter(places, order) {
+            Ok(()) => Some(self),
+            Err(_) => None,
         }
     }
 

@@ -1,7 +1,12 @@
 -- Document 02, §1: who has called INITPOOL, and the lengths that POOLCHECK keeps.
 use Rattle.std.specs.Prelude.{Bool, true, false, Option, Some, None, ℕ, eqb, get_or, set, replicate}
+use Rattle.common.specs.Choice.{pick}
 use Rattle.pool.specs.declared.User.{User}
 use Rattle.pool.specs.declared.Control.{Control}
+
+-- stands for a length that was never stated, where a length is given as a number
+abbrev pub never : ℕ
+never = 65535
 
 -- called neither INITPOOL nor POOLCHECK
 abbrev pub no_user : User
@@ -35,9 +40,13 @@ beginning user = record { begun = true; stated = user.stated }
 unfoldable pub began_of : Control → ℕ → Control
 began_of control level = record { users = set control.users level (beginning (user_of control level)); common = control.common }
 
+-- what is kept of a length that is stated
+abbrev pub kept_of : ℕ → Option ℕ
+kept_of length = pick (eqb length never) None (Some length)
+
 -- "POOLCHECK keeps the length that the caller states, for itself and as the common length."
 abbrev pub stating : User → ℕ → User
-stating user length = record { begun = user.begun; stated = Some length }
+stating user length = record { begun = user.begun; stated = kept_of length }
 
 unfoldable pub stated_of : Control → ℕ → ℕ → Control
-stated_of control level length = record { users = set control.users level (stating (user_of control level) length); common = Some length }
+stated_of control level length = record { users = set control.users level (stating (user_of control level) length); common = kept_of length }

@@ -3,11 +3,14 @@
 #![tactic(auto)]
 
 ghost use Rattle.std.specs.Prelude.{◌≡◌, ◌+◌, leb, replicate};
-ghost use Rattle.pool.specs.Control.{fresh_of, user_of, begun_of, agrees_of, began_of, stated_of};
+ghost use Rattle.pool.specs.Control.{fresh_of, user_of, begun_of, agrees_of, began_of, kept_of, stated_of};
 ghost use Rattle.pool.specs.Parts.{put_of, get_of};
 
 // The largest pool, in bytes.
 pub const LARGEST: u16 = 4_096;
+
+// Stands for a length that was never stated, where a length is given as a number.
+pub const NEVER: u16 = 65_535;
 
 // What a process has to do with the pool.
 #[derive(Clone, Copy)]
@@ -89,17 +92,28 @@ impl Control {
         control
     }
 
-    // The process at a level states a length, its own and the common one from now on.
+    // The process at a level states a length, its own and the common one from now on. Who states NEVER has stated none, and there is no common one.
     pub fn state(self, level: u8, length: u16) -> Control
         ensures { result ≡ stated_of self level length }
     {
+        let kept = kept(length);
         let mut control = self;
         if level < 12 {
-            control.users[usize::from(level)].stated = Some(length);
+            control.users[usize::from(level)].stated = kept;
         }
-        control.common = Some(length);
+        control.common = kept;
         control
     }
+}
+
+// What is kept of a length: none of NEVER.
+fn kept(length: u16) -> Option<u16>
+    ensures { result ≡ kept_of length }
+{
+    if length == NEVER {
+        return None;
+    }
+    Some(length)
 }
 
 // The bytes of the largest pool, as it begins.

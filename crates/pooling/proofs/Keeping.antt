@@ -1,8 +1,7 @@
 -- The four calls leave a steady table: no length that is kept is beyond the pool's size. Assumes nothing.
 use mathlib.Core.Path.{◌≡◌, subst}
-use mathlib.Core.Bool.{true, not}
+use mathlib.Core.Bool.{true, not, ◌||◌}
 use mathlib.Core.List.{List}
-use Rattle.std.specs.Prelude.{Some}
 use Prim.Native.Nat.{ℕ, ◌<◌}
 use lib.Dec.{eqb, leb, ltb}
 use lib.ListN.{length, get_or, set}
@@ -12,7 +11,7 @@ use Rattle.common.proofs.Cases.{by_test, both_true, either_true}
 use Rattle.common.proofs.Every.{every_below_lem, below_every}
 use Rattle.pool.specs.declared.Control.{Control}
 use Rattle.pool.specs.declared.User.{User}
-use Rattle.pool.specs.Control.{no_user, user_of, beginning, stating, began_of, stated_of}
+use Rattle.pool.specs.Control.{never, kept_of, no_user, user_of, beginning, stating, began_of, stated_of}
 use Rattle.table.specs.declared.answers.Answer.TheVariants.{PoolOverflow}
 use Rattle.table.specs.declared.configs.Config.{Config}
 use Rattle.table.specs.declared.Table.{Table}
@@ -24,10 +23,15 @@ use Rattle.calls.proofs.Obeying.{last_passed}
 use Rattle.pooling.specs.Pooling.{length_good, init_pool_of, pool_check_of, get_pool_of, put_pool_of}
 
 module _ (c : Config) where
+  -- by the number that was stated: `never` is within any size
+  pub kept_within : (stated : ℕ) → length_within c (kept_of stated) ≡ (eqb stated never || leb stated c.pool)
+  kept_within stated = by_test (eqb stated never) (λ e. rw e) (λ e. rw e)
+
   -- a length that POOLCHECK lets pass is within the size
-  good_within : (stated : ℕ) → length_good c stated ≡ true → length_within c (Some stated) ≡ true
+  good_within : (stated : ℕ) → length_good c stated ≡ true → length_within c (kept_of stated) ≡ true
   unfolding length_good
-  good_within stated good = (both_true (not (negative16 stated)) (leb stated c.pool) good).1
+  good_within stated good =
+      rw (kept_within stated) (either_true (eqb stated never) _ (both_true (not (negative16 stated)) (leb stated c.pool) good).1)
 
   -- so all lengths are, with such a one at a level; there is none past the last level
   lengths_set : (users : List User) (level : ℕ) (user : User) → lengths_sound c users ≡ true → (level < 12 → length_sound c level user.stated ≡ true)

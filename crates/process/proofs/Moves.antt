@@ -19,6 +19,7 @@ use Rattle.process.specs.declared.states.State.TheVariants.{Inactive, Ready, Wai
 use Rattle.process.specs.declared.states.Cause.{Cause}
 use Rattle.process.specs.declared.states.Cause.TheVariants.{Start, WaitForMessage, Message, WaitForEvent, Event, WaitForSemaphore, Handover}
 use Rattle.process.specs.contracts.states.State.{the_type}
+use Rattle.process.specs.contracts.states.StatePartialEq.TheImpl as equality
 use Rattle.process.specs.States.{row_of, is_of, column_of, next_of}
 
 abbrev pub states : List State
@@ -47,6 +48,10 @@ column_known Handover = (lit< tt, refl)
 -- the derived `==` says of two states what the document's order says
 pub same_state : (s t : State) → sameb the_type s t ≡ is_of s t
 same_state s t = search rules
+
+-- and so does the `==` that the code has, derived or written out
+pub equal_state : (s t : State) → equality.ghosts.eq s t ≡ is_of s t
+equal_state s t = search rules
 
 -- two entries are the same
 abbrev same : Option State → Option State → Bool

@@ -112,7 +112,8 @@ impl Table {
         }
     }
 
-    // The number and nothing else, and the table as it was: every refusal but a full buffer's 3, which may wake, and 37, which tells a level.
+    // The number and nothing else, and the table as it was: 35 and 36, told where no call is made. (A call that its own checks refuse comes to the same, by
+    // `calls::obeyed` and `ruled`: of these a full buffer's 3 may wake, and 37 tells a level.)
     pub fn refused(self, answer: Answer) -> Outcome
         ensures { result ≡ refused_of self answer }
     {

@@ -67,17 +67,13 @@ fn order(clock: TimeOfDay, caller: u8, receiver: u8, moment: Moment, new: NewOrd
     }
 }
 
-// An order without fault is entered, if a place is left. (Where the orders change, the two lines stand here and in `cancelled`: a function around
-// them would be named for what they say, and be no shorter.)
+// An order without fault is entered, if a place is left.
 fn entered(table: &mut Table, order: Order) -> Said
     ensures { Has (ordered table.old order) result table.new }
 {
-    match table.orders.accept(table.config.orders as usize, order) {
-        Some(orders) => {
-            table.orders = orders;
-            calls::done()
-        }
-        None => calls::said(Answer::TaskListOverflow, wakes::none()),
+    match table.orders.enter(table.config.orders as usize, order) {
+        Ok(()) => calls::done(),
+        Err(_) => calls::said(Answer::TaskListOverflow, wakes::none()),
     }
 }
 

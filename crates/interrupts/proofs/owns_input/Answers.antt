@@ -24,4 +24,4 @@ owns_by c level input (Some place) owns is told =
     here ∙ ap (λ (o : Option Privileged). in_run o input) is
 
 pub returns : goal.returns
-returns c = owns_by c.args.config c.args.level c.args.input c.privilege.result c.is_some_and.result c.privilege.ensures (search rules)
+returns c = owns_by c.args.config c.args.level c.args.input c.privilege.result _ c.privilege.ensures (search rules)

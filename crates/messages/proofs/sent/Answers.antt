@@ -7,7 +7,7 @@ use Rattle.calls.specs.Outcomes.{answered_of}
 use Rattle.calls.proofs.Obeying.{has_of}
 use Rattle.posting.specs.Posting.{Posted}
 use Rattle.messages.specs.Sending.{send_posted, sent_of}
-use Rattle.messages.proofs.Answering.{waiting_none, waiting_some, always_full, always_served}
+use Rattle.messages.proofs.Answering.{waiting_kept, waiting_some, always_full, always_served}
 use Rattle.messages.proofs.Broadcasts.{nobody_waited}
 use Rattle.messages.proofs.sent.Goals as goal
 
@@ -22,7 +22,7 @@ returns-in-Waiting c =
     let posted = posted_for args.table.now args.target args.condition args.message in
     has_of _ _ _
     (rw (c.said.ensures, c.none.ensures)
-    (waiting_none _ _ _ posted c.posted-full.ensures c.in-Waiting.is c.if-wakes-eq0.true
+    (waiting_kept _ _ _ posted c.posted-full.ensures c.in-Waiting.is c.if-wakes-eq0.true
     (rw c.in-Waiting.is (nobody_waited args.table.now.config args.target args.message args.table.now.processes))))
 
 pub returns-in-Waiting-2 : goal.returns-in-Waiting-2

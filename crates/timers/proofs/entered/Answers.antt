@@ -1,12 +1,14 @@
-use mathlib.Core.Path.{refl}
-use Rattle.table.specs.Wakes.{no_wakes_of}
+use mathlib.Core.Path.{refl, ap}
+use Rattle.calls.specs.Levels.{with_orders}
 use Rattle.timers.specs.Timers.{ordered}
 use Rattle.timers.proofs.entered.Goals as goal
 
-pub returns-in-Some : goal.returns-in-Some
+pub returns-in-Ok : goal.returns-in-Ok
 unfolding ordered
-returns-in-Some c = rw (← c.in-Some.ensures) (record { says = c.done.ensures; leaves = refl })
+returns-in-Ok c = rw c.in-Ok.ensures (record { says = c.done.ensures; leaves = refl })
 
-pub returns-in-None : goal.returns-in-None
+pub returns-in-Err : goal.returns-in-Err
 unfolding ordered
-returns-in-None c = rw (← c.in-None.ensures) (record { says = rw (c.said.ensures, c.none.ensures); leaves = refl })
+returns-in-Err c =
+    let refused = c.in-Err.ensures in
+    rw refused.0 (record { says = rw (c.said.ensures, c.none.ensures); leaves = ap (with_orders c.args.table.now) refused.1 })

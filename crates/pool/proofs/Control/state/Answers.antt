@@ -17,6 +17,6 @@ returns c =
     let places : length c.args.self.users ≡ 12 = long (goal.at.returns c).Start in
     let start = c in
     elim c.if-level-lt12.branch [
-      | then-level-lt12 w ↦ rw (w.control-is, w.from.ensures)
-      | else-level-lt12 w ↦ rw (w.control-is, set_out start.args.self.users start.args.level _ (omega (arith, w.if-level-lt12.false)))
+      | then-level-lt12 w ↦ rw (w.control-is, w.from.ensures, start.kept-kept.ensures)
+      | else-level-lt12 w ↦ rw (w.control-is, set_out start.args.self.users start.args.level _ (omega (arith, w.if-level-lt12.false)), start.kept-kept.ensures)
     ]

@@ -1,4 +1,4 @@
-use Rattle.std.proofs.Common.{◌≡◌, ◌<◌, ◌∙◌, arith}
+use Rattle.std.proofs.Common.{◌≡◌, ◌<◌, ◌∙◌, get_or, arith}
 use Rattle.std.proofs.lemmas.Result.{err_from_is_err_and}
 use borrow.Author.Tests.{eq-eqb, ne_eqb}
 use Rattle.semaphores.specs.Semaphores.{holder_of, holds_of, not_held_of, release_of}
@@ -30,18 +30,21 @@ unfolding release_of holds_of not_held_of holder_of
 returns-then-holder-level c =
     let passed = checked_usable _ _ c.in_ok-number.ensures in
     let at : c.from-at.result ≡ c.args.number = c.from-at.ensures ∙ passed.1 in
-    rw (at, passed.0, ne_eqb _ _ (rw at at c.if-holder-level.true))
+    let another : get_or c.args.self.holders c.from-at.result 0 ≡ c.args.level → ⊥ = omega arith in
+    rw (at, passed.0, ne_eqb _ _ (rw at at another))
 
 pub returns-in_default : goal.returns-in_default
 unfolding release_of holds_of holder_of
 returns-in_default c =
     let passed = checked_usable _ _ c.in_ok-number.ensures in
     let at : c.from-at.result ≡ c.args.number = c.from-at.ensures ∙ passed.1 in
-    rw (at, passed.0, eq-eqb _ _ (rw at at c.if-holder-level.false), ← passed.1, ← c.in_default.ensures)
+    let own : get_or c.args.self.holders c.from-at.result 0 ≡ c.args.level = omega arith in
+    rw (at, passed.0, eq-eqb _ _ (rw at at own), ← passed.1, ← c.in_default.ensures)
 
 pub returns : goal.returns
 unfolding release_of holds_of holder_of
 returns c =
     let passed = checked_usable _ _ c.in_ok-number.ensures in
     let at : c.from-at.result ≡ c.args.number = c.from-at.ensures ∙ passed.1 in
-    rw (at, passed.0, eq-eqb _ _ (rw at at c.if-holder-level.false), ← passed.1, ← c.in-Some.ensures)
+    let own : get_or c.args.self.holders c.from-at.result 0 ≡ c.args.level = omega arith in
+    rw (at, passed.0, eq-eqb _ _ (rw at at own), ← passed.1, ← c.in-Some.ensures)
